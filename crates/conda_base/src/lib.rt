@@ -10,3 +10,6 @@ pub use bytes::Bytes;
 pub use copied::{Copied, copied_all};
 pub use rows::Rows;
 pub use text::Text;
+
+#[cfg(test)]
+mod tests;
