@@ -1,0 +1,4 @@
+pub mod PathLemmas
+pub mod DistLemmas
+pub mod SlotLemmas
+pub mod LaneLemmas

@@ -1,0 +1,70 @@
+-- Dists: the names of packages, `name-version-build`, as conda's dist.py splits them at the last two dashes.
+-- Which bytes they hold is this project's own rule.
+use Rattle.std.specs.Prelude.{◌≡◌, ◌≢◌, ℕ, ◌≤◌, Bool, true, false, ◌&&◌, ◌||◌, ◌==◌, nat_lt, nat_le, nat_eq, not, if◌then◌else◌, List, [], ◌∷◌, ◌++◌, length, codes}
+use Rattle.std.specs.List.{AllByRecursion, after_last, before_last, ends_with, list_any}
+
+-- `-`
+abbrev pub is_dash : ℕ → Bool
+is_dash b = b == 45
+
+-- no dist holds such a byte: one below 33, 127, `/` or `:`
+abbrev pub is_bad_byte : ℕ → Bool
+is_bad_byte b = nat_lt b 33 || b == 127 || b == 47 || b == 58
+
+-- no dist begins with such a byte: `+`, `-`, `#` or `=`
+abbrev pub is_bad_front : ℕ → Bool
+is_bad_front b = b == 43 || b == 45 || b == 35 || b == 61
+
+-- the text's first byte is one
+abbrev pub begins_badly : List ℕ → Bool
+begins_badly [] = false
+begins_badly (b ∷ rest) = is_bad_front b
+
+-- the text is that of a package file
+abbrev pub names_file : List ℕ → Bool
+names_file text = ends_with nat_eq text (codes ".tar.bz2") || ends_with nat_eq text (codes ".conda")
+
+-- ---- the rule
+
+abbrev pub joined : List ℕ → List ℕ → List ℕ → List ℕ
+joined name version build = name ++ 45 ∷ (version ++ 45 ∷ build)
+
+-- name, version and build, none of them empty, split at the last two dashes
+pub record IsSplit (text name version build : List ℕ) : Type 0 where
+  pub text_is : text ≡ joined name version build
+  pub name_some : name ≢ []
+  pub version_some : version ≢ []
+  pub build_some : build ≢ []
+  pub version_plain : AllByRecursion (λ b. is_dash b ≡ false) version
+  pub build_plain : AllByRecursion (λ b. is_dash b ≡ false) build
+
+pub record IsDist (text : List ℕ) : Type 0 where
+  pub split : (name : List ℕ) × (version : List ℕ) × (build : List ℕ) × IsSplit text name version build
+  pub bytes : AllByRecursion (λ b. is_bad_byte b ≡ false) text
+  pub front : begins_badly text ≡ false
+  pub no_file : names_file text ≡ false
+  pub short : length text ≤ 255
+
+-- ---- the same as functions
+
+-- what stands before the last two dashes, between them and behind them
+abbrev pub dist_name : List ℕ → List ℕ
+dist_name text = before_last is_dash (before_last is_dash text)
+
+abbrev pub dist_version : List ℕ → List ℕ
+dist_version text = after_last is_dash (before_last is_dash text)
+
+abbrev pub dist_build : List ℕ → List ℕ
+dist_build text = after_last is_dash text
+
+abbrev pub is_some_text : List ℕ → Bool
+is_some_text [] = false
+is_some_text (b ∷ rest) = true
+
+-- two dashes at least, with something before, between and behind the last two
+abbrev pub has_parts : List ℕ → Bool
+has_parts text = is_some_text (dist_name text) && is_some_text (dist_version text) && is_some_text (dist_build text)
+
+abbrev pub is_dist : List ℕ → Bool
+is_dist text =
+    nat_le (length text) 255 && not (begins_badly text) && not (list_any is_bad_byte text) && not (names_file text) && has_parts text

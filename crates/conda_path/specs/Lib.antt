@@ -1,0 +1,6 @@
+pub mod Paths
+pub mod Bytes
+pub mod Faults
+pub mod Dists
+pub mod Slots
+pub mod Lanes

@@ -1,0 +1,261 @@
+ghost use Rattle.std.specs.Prelude.{◌≡◌, ◌≢◌, ◌<◌, ℕ, IfNone, IfOk, IfSome, IsErrOf, OnOk, false, length, slice_index, true};
+ghost use Rattle.std.specs.List.{after_last, before_last, list_any};
+ghost use Rattle.conda_path.specs.Dists as dists;
+ghost use Rattle.conda_path.specs.Dists.{dist_build, dist_name, dist_version, IsDist, joined};
+
+use crate::error::DistErr;
+use conda_base::{Copied, Text};
+use std::alloc::{AllocError, Global};
+use std::cmp::Ordering;
+use std::hash::{Hash, Hasher};
+use std::marker::Model;
+
+/// The most bytes of a dist.
+const DIST_LIMIT: usize = 255;
+
+/// A package's name, version and build in one text, `name-version-build`, split at the last two `-`.
+///
+/// None of the three is empty. No byte is `/`, `:`, below 33 or 127. The text begins with none of `+`, `-`, `#`
+/// and `=`, ends with neither `.tar.bz2` nor `.conda`, and has at most 255 bytes. The split is that of conda's
+/// `dist.py`; the rest is this project's own rule.
+///
+/// Contracts see it as the list of its bytes, by which dists are compared and hashed.
+#[derive(Debug, Drop)]
+pub struct Dist {
+    text: Text,
+}
+
+impl Model for Dist {
+    ghost use Rattle.std.specs.Prelude.{◌≡◌, List, ℕ, true};
+
+    ghost Value = { List ℕ };
+
+    ghost use Rattle.conda_path.specs.Dists.{is_dist};
+
+    ghost view = { λ d. d.text };
+
+    ghost invariant = { λ d. is_dist d.text ≡ true };
+}
+
+/// The offset of the last `-`.
+fn last_dash(text: &[u8]) -> Option<usize>
+    ensures dash { IfSome result (λ at. (at < length text.now) × (slice_index text.now at ≡ 45)) }
+    ensures last { IfSome result (λ at. (k : ℕ) → at < k → k < length text.now → slice_index text.now k ≢ 45) }
+    ensures none { IfNone result ((k : ℕ) → k < length text.now → slice_index text.now k ≢ 45) }
+{
+    let mut last = None;
+    for (at, byte) in text.iter().enumerate() {
+        if *byte == b'-' {
+            last = Some(at);
+        }
+    }
+    last
+}
+
+/// Whether a byte is one that no dist holds.
+fn is_bad_byte(byte: u8) -> bool
+    ensures { result ≡ dists.is_bad_byte byte }
+{
+    byte < 33 || byte == 127 || byte == b'/' || byte == b':'
+}
+
+/// Whether the text begins with a byte that no dist begins with.
+fn begins_badly(text: &[u8]) -> bool
+    ensures { result ≡ dists.begins_badly text.now }
+{
+    match text {
+        [] => false,
+        [b, ..] => *b == b'+' || *b == b'-' || *b == b'#' || *b == b'=',
+    }
+}
+
+/// What stands before the last `-` and behind it; nothing and the whole text, where there is none.
+fn cut(text: &str) -> (&str, &str)
+    ensures before { result.0.now ≡ before_last dists.is_dash text.now }
+    ensures behind { result.1.now ≡ after_last dists.is_dash text.now }
+{
+    match last_dash(text.as_bytes()) {
+        Some(at) => (&text[..at], &text[at + 1..]),
+        None => ("", text),
+    }
+}
+
+/// Whether the text has a name, a version and a build.
+fn has_parts(text: &str) -> bool
+    ensures { result ≡ dists.has_parts text.now }
+{
+    let (front, build) = cut(text);
+    let (name, version) = cut(front);
+    !name.is_empty() && !version.is_empty() && !build.is_empty()
+}
+
+/// Whether the text is that of a package file.
+fn names_file(text: &[u8]) -> bool
+    ensures { result ≡ dists.names_file text.now }
+{
+    text.ends_with(b".tar.bz2") || text.ends_with(b".conda")
+}
+
+/// Whether a byte of the text is one that no dist holds.
+fn holds_bad_byte(text: &[u8]) -> bool
+    ensures { result ≡ list_any dists.is_bad_byte text.now }
+{
+    text.iter().any(|byte| is_bad_byte(*byte))
+}
+
+/// Whether the text is a dist.
+fn is_dist(text: &str) -> bool
+    ensures { result ≡ dists.is_dist text.now }
+{
+    let bytes = text.as_bytes();
+    if bytes.len() > DIST_LIMIT {
+        return false;
+    }
+    if begins_badly(bytes) {
+        return false;
+    }
+    if holds_bad_byte(bytes) {
+        return false;
+    }
+    if names_file(bytes) {
+        return false;
+    }
+    has_parts(text)
+}
+
+impl Dist {
+    /// Reads a dist.
+    pub fn read(alloc: Global, text: &str) -> Result<Dist, DistErr>
+        ensures same { IfOk result (λ dist. dist ≡ text.now) }
+        ensures ok { OnOk result (IsDist text.now) }
+        ensures bad { IsErrOf result DistErr.BadDist → ¬ IsDist text.now }
+        ensures exact { OnOk result (dists.is_dist text.now ≡ true) }
+        ensures exact_bad { IsErrOf result DistErr.BadDist → dists.is_dist text.now ≡ false }
+    {
+        if !is_dist(text) {
+            return Err(DistErr::BadDist);
+        }
+        match Text::from_str(alloc, text) {
+            Ok(text) => Ok(Dist { text }),
+            Err(_) => Err(DistErr::Memory),
+        }
+    }
+
+    /// The dist's text.
+    pub fn text(&self) -> &str
+        ensures same { result.now ≡ self.now }
+        ensures rule { IsDist self.now }
+        ensures holds { dists.is_dist self.now ≡ true }
+    {
+        self.text.as_str()
+    }
+
+    /// The name: what stands before the last two `-`. It takes no memory.
+    pub fn name(&self) -> &str
+        ensures name { result.now ≡ dist_name self.now }
+        ensures split { self.now ≡ joined (dist_name self.now) (dist_version self.now) (dist_build self.now) }
+    {
+        let (front, _) = cut(self.text.as_str());
+        let (name, _) = cut(front);
+        name
+    }
+
+    /// The version: what stands between the last two `-`. It takes no memory.
+    pub fn version(&self) -> &str
+        ensures version { result.now ≡ dist_version self.now }
+        ensures split { self.now ≡ joined (dist_name self.now) (dist_version self.now) (dist_build self.now) }
+    {
+        let (front, _) = cut(self.text.as_str());
+        let (_, version) = cut(front);
+        version
+    }
+
+    /// The build: what stands behind the last `-`. It takes no memory.
+    pub fn build(&self) -> &str
+        ensures build { result.now ≡ dist_build self.now }
+        ensures split { self.now ≡ joined (dist_name self.now) (dist_version self.now) (dist_build self.now) }
+    {
+        let (_, build) = cut(self.text.as_str());
+        build
+    }
+
+    /// An equal dist.
+    pub fn copy(&self, alloc: Global) -> Result<Dist, AllocError>
+        ensures { IfOk result (λ made. made ≡ self.now) }
+    {
+        let text = self.text.copy(alloc)?;
+        Ok(Dist { text })
+    }
+}
+
+impl Copied for Dist {
+    fn copied(&self, alloc: Global) -> Result<Dist, AllocError> {
+        self.copy(alloc)
+    }
+}
+
+impl PartialEq for Dist {
+    ghost use Rattle.std.specs.Prelude.{nat_eq};
+    ghost use Rattle.std.specs.Cmp.{partial_equiv_from_equiv};
+    ghost use Rattle.std.specs.Cmp.Lexicographic.{nat_list_eq_equiv, pointwise};
+
+    ghost eq = { pointwise nat_eq };
+
+    ghost laws = { partial_equiv_from_equiv nat_list_eq_equiv };
+
+    fn eq(&self, other: &Dist) -> bool {
+        self.text == other.text
+    }
+}
+
+impl Eq for Dist {
+    ghost use Rattle.std.specs.Cmp.Lexicographic.{nat_list_eq_equiv};
+
+    ghost laws = { nat_list_eq_equiv };
+}
+
+impl Hash for Dist {
+    ghost use Rattle.std.specs.Hash as fed;
+    ghost use Rattle.std.specs.Cmp.Rules.{hashing};
+    ghost use Rattle.std.proofs.Common.{rules};
+
+    ghost hash_input = { fed.str };
+
+    ghost respects_eq = { Prim.search (hashing, rules) };
+
+    fn hash<H: Hasher>(&self, state: &mut H) {
+        self.text.hash(state)
+    }
+}
+
+impl PartialOrd for Dist {
+    ghost use Rattle.std.specs.Prelude.{Some};
+    ghost use Rattle.std.specs.Ordering.{nat_cmp};
+    ghost use Rattle.std.specs.Cmp.Lexicographic.{slice_cmp, texts_po};
+
+    ghost partial_cmp = { λ a b. Some (slice_cmp nat_cmp a b) };
+
+    ghost laws = { texts_po };
+
+    fn partial_cmp(&self, other: &Dist) -> Option<Ordering> {
+        Some(self.cmp(other))
+    }
+}
+
+impl Ord for Dist {
+    ghost use Rattle.std.specs.Prelude.{refl};
+    ghost use Rattle.std.specs.Ordering.{nat_cmp};
+    ghost use Rattle.std.specs.Cmp.Lexicographic.{nat_list_cmp_total, slice_cmp, texts_ties};
+
+    ghost cmp = { slice_cmp nat_cmp };
+
+    ghost total = { nat_list_cmp_total };
+
+    ghost matches_partial_cmp = { λ a b. refl };
+
+    ghost matches_eq = { texts_ties };
+
+    fn cmp(&self, other: &Dist) -> Ordering {
+        self.text.cmp(&other.text)
+    }
+}

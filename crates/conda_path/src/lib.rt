@@ -1,0 +1,22 @@
+//! Paths inside a prefix, prefixes, package names (dists), slot keys and the lane of a path.
+#![tactic(auto)]
+
+mod dist;
+mod error;
+mod lane;
+mod prefix;
+mod rel_path;
+mod scan;
+mod slot;
+mod values;
+
+pub use dist::Dist;
+pub use error::{DistErr, PathErr};
+pub use lane::lane_of;
+pub use prefix::Prefix;
+pub use rel_path::RelPath;
+pub use slot::{SlotKey, StorePath, one_key};
+pub use values::{Digest, Good, Kind, Node};
+
+#[cfg(test)]
+mod tests;

@@ -1,0 +1,160 @@
+ghost use Rattle.std.specs.Prelude.{◌≡◌, IfOk, IfErr, OnOk, MatchResult, Some, None};
+ghost use Rattle.conda_path.specs.Faults.{NamesFault, HasPlace};
+ghost use Rattle.conda_path.specs.Paths.{prefix_fault, IsPrefixFault, IsPrefix};
+
+use crate::error::PathErr;
+use crate::scan::{Bad, first_offence};
+use conda_base::{Copied, Text};
+use std::alloc::{AllocError, Global};
+use std::cmp::Ordering;
+use std::hash::{Hash, Hasher};
+use std::marker::Model;
+
+/// The most bytes of a prefix.
+const PREFIX_LIMIT: usize = 512;
+
+/// A prefix, the folder of an environment: `/` and a path of at most 511 bytes without space.
+/// This project's own rule.
+///
+/// Contracts see it as the list of its bytes, by which prefixes are compared and hashed.
+#[derive(Debug, Drop)]
+pub struct Prefix {
+    text: Text,
+}
+
+impl Model for Prefix {
+    ghost use Rattle.std.specs.Prelude.{◌≡◌, List, ℕ, None};
+
+    ghost Value = { List ℕ };
+
+    ghost use Rattle.conda_path.specs.Paths.{prefix_fault};
+
+    ghost view = { λ p. p.text };
+
+    ghost invariant = { λ p. prefix_fault p.text ≡ None };
+}
+
+/// The place of the text's fault, where it is no prefix. It takes no memory.
+fn fault_of(text: &str) -> Option<usize>
+    ensures { result ≡ prefix_fault text.now }
+{
+    match text.as_bytes() {
+        [b'/', path @ ..] => match first_offence(Bad::ControlOrSpace, 1, path) {
+            Some(at) => Some(at),
+            None if text.len() > PREFIX_LIMIT => Some(PREFIX_LIMIT),
+            None => None,
+        },
+        _ => Some(0),
+    }
+}
+
+impl Prefix {
+    /// Reads a prefix.
+    ///
+    /// `BadPath` has 0 where the text doesn't begin with `/`, else the least offset behind it where a bad part
+    /// begins or a bad byte stands, else 512, the limit that the text is longer than.
+    pub fn read(alloc: Global, text: &str) -> Result<Prefix, PathErr>
+        ensures same { IfOk result (λ prefix. prefix ≡ text.now) }
+        ensures ok { OnOk result (IsPrefix text.now) }
+        ensures bad { IfErr result (λ e. HasPlace e (IsPrefixFault text.now)) }
+        ensures only { IsPrefix text.now → IfErr result (λ e. e ≡ PathErr.Memory) }
+        ensures exact { MatchResult result (λ _. prefix_fault text.now ≡ None) (λ e. NamesFault e (prefix_fault text.now)) }
+    {
+        if let Some(at) = fault_of(text) {
+            return Err(PathErr::BadPath { at });
+        }
+        match Text::from_str(alloc, text) {
+            Ok(text) => Ok(Prefix { text }),
+            Err(_) => Err(PathErr::Memory),
+        }
+    }
+
+    /// The prefix's text.
+    pub fn as_str(&self) -> &str
+        ensures same { result.now ≡ self.now }
+        ensures rule { IsPrefix self.now }
+        ensures no_fault { prefix_fault self.now ≡ None }
+    {
+        self.text.as_str()
+    }
+
+    /// An equal prefix.
+    pub fn copy(&self, alloc: Global) -> Result<Prefix, AllocError>
+        ensures { IfOk result (λ made. made ≡ self.now) }
+    {
+        let text = self.text.copy(alloc)?;
+        Ok(Prefix { text })
+    }
+}
+
+impl Copied for Prefix {
+    fn copied(&self, alloc: Global) -> Result<Prefix, AllocError> {
+        self.copy(alloc)
+    }
+}
+
+impl PartialEq for Prefix {
+    ghost use Rattle.std.specs.Prelude.{nat_eq};
+    ghost use Rattle.std.specs.Cmp.{partial_equiv_from_equiv};
+    ghost use Rattle.std.specs.Cmp.Lexicographic.{nat_list_eq_equiv, pointwise};
+
+    ghost eq = { pointwise nat_eq };
+
+    ghost laws = { partial_equiv_from_equiv nat_list_eq_equiv };
+
+    fn eq(&self, other: &Prefix) -> bool {
+        self.text == other.text
+    }
+}
+
+impl Eq for Prefix {
+    ghost use Rattle.std.specs.Cmp.Lexicographic.{nat_list_eq_equiv};
+
+    ghost laws = { nat_list_eq_equiv };
+}
+
+impl Hash for Prefix {
+    ghost use Rattle.std.specs.Hash as fed;
+    ghost use Rattle.std.specs.Cmp.Rules.{hashing};
+    ghost use Rattle.std.proofs.Common.{rules};
+
+    ghost hash_input = { fed.str };
+
+    ghost respects_eq = { Prim.search (hashing, rules) };
+
+    fn hash<H: Hasher>(&self, state: &mut H) {
+        self.text.hash(state)
+    }
+}
+
+impl PartialOrd for Prefix {
+    ghost use Rattle.std.specs.Prelude.{Some};
+    ghost use Rattle.std.specs.Ordering.{nat_cmp};
+    ghost use Rattle.std.specs.Cmp.Lexicographic.{slice_cmp, texts_po};
+
+    ghost partial_cmp = { λ a b. Some (slice_cmp nat_cmp a b) };
+
+    ghost laws = { texts_po };
+
+    fn partial_cmp(&self, other: &Prefix) -> Option<Ordering> {
+        Some(self.cmp(other))
+    }
+}
+
+impl Ord for Prefix {
+    ghost use Rattle.std.specs.Prelude.{refl};
+    ghost use Rattle.std.specs.Ordering.{nat_cmp};
+    ghost use Rattle.std.specs.Cmp.Lexicographic.{nat_list_cmp_total, slice_cmp, texts_ties};
+
+    ghost cmp = { slice_cmp nat_cmp };
+
+    ghost total = { nat_list_cmp_total };
+
+    ghost matches_partial_cmp = { λ a b. refl };
+
+    ghost matches_eq = { texts_ties };
+
+    fn cmp(&self, other: &Prefix) -> Ordering {
+        self.text.cmp(&other.text)
+    }
+}
