@@ -1,0 +1,15 @@
+use Rattle.std.proofs.lemmas.Cmp.{tied_itself}
+use Rattle.conda_version.proofs.OrderLemmas.{version_total, version_transitive}
+use Rattle.conda_version.proofs.laws.order_laws.Goals as goal
+
+pub returns-clause-reflexive : goal.returns-clause-reflexive
+returns-clause-reflexive c = tied_itself version_total
+
+pub returns-clause-transitive : goal.returns-clause-transitive
+returns-clause-transitive c = version_transitive
+
+pub returns-clause-total : goal.returns-clause-total
+returns-clause-total c = version_total.antisymm
+
+pub returns-clause-equals : goal.returns-clause-equals
+returns-clause-equals c = version_total.congr

@@ -1,0 +1,66 @@
+-- The order of versions, and which version begins with which: conda's version.py.
+use Rattle.std.specs.Prelude.{ℕ, Bool, true, ◌&&◌, ◌==◌, if◌then◌else◌, List, [], ◌∷◌, length, drop, slice_index_or, nat_eq}
+use Rattle.std.specs.Ordering.{ordering_then, nat_cmp, is_eq}
+use Rattle.std.specs.Cmp.Lexicographic.{slice_cmp}
+use Rattle.std.specs.List.{starts_with}
+use Rattle.std.specs.declared.cmp.Ordering.{Ordering}
+use Rattle.std.specs.declared.cmp.Ordering.TheVariants.{Less, Equal, Greater}
+use Rattle.conda_version.specs.declared.run.Run.{Run}
+use Rattle.conda_version.specs.declared.run.Run.TheVariants.{Number, Post, Word}
+use Rattle.conda_version.specs.Text.{plain}
+use Rattle.conda_version.specs.Grammar.{main_of, local_of}
+
+-- A text is less than every number, and a number is less than `post`. Texts go by their bytes.
+abbrev pub run_cmp : Run → Run → Ordering
+run_cmp (Number m) (Number n) = nat_cmp m n
+run_cmp (Number m) Post = Less
+run_cmp (Number m) (Word y) = Greater
+run_cmp Post (Number n) = Greater
+run_cmp Post Post = Equal
+run_cmp Post (Word y) = Greater
+run_cmp (Word x) (Number n) = Less
+run_cmp (Word x) Post = Less
+run_cmp (Word x) (Word y) = slice_cmp nat_cmp x y
+
+-- the order of two lists, the shorter one padded at its end
+abbrev pub padded_cmp : {A : Type 0} → (A → A → Ordering) → A → List A → List A → Ordering
+padded_cmp cmp pad [] [] = Equal
+padded_cmp cmp pad [] (y ∷ ys) = ordering_then (cmp pad y) (padded_cmp cmp pad [] ys)
+padded_cmp cmp pad (x ∷ xs) [] = ordering_then (cmp x pad) (padded_cmp cmp pad xs [])
+padded_cmp cmp pad (x ∷ xs) (y ∷ ys) = ordering_then (cmp x y) (padded_cmp cmp pad xs ys)
+
+-- a missing run counts as the number 0
+abbrev pub runs_cmp : List Run → List Run → Ordering
+runs_cmp = padded_cmp run_cmp (Number 0)
+
+-- a missing component has no runs
+abbrev pub components_cmp : List (List Run) → List (List Run) → Ordering
+components_cmp = padded_cmp runs_cmp []
+
+-- the order of two versions by their texts: epoch and main part first, then the local part
+abbrev pub version_cmp : List ℕ → List ℕ → Ordering
+version_cmp v w =
+    ordering_then (components_cmp (main_of (plain v)) (main_of (plain w))) (components_cmp (local_of (plain v)) (local_of (plain w)))
+
+-- All elements of ys but the last are those of xs, which is padded at its end, and the last one begins that of xs.
+abbrev pub all_begin : {A : Type 0} → (A → A → Bool) → (A → A → Bool) → A → List A → List A → Bool
+all_begin same begins pad xs [] = true
+all_begin same begins pad xs (y ∷ []) = begins (slice_index_or xs 0 pad) y
+all_begin same begins pad xs (y ∷ z ∷ ys) = same (slice_index_or xs 0 pad) y && all_begin same begins pad (drop 1 xs) (z ∷ ys)
+
+-- equal runs, or two texts of which the first begins with the second
+abbrev pub run_starts : Run → Run → Bool
+run_starts (Word x) (Word y) = starts_with nat_eq x y
+run_starts x y = is_eq (run_cmp x y)
+
+abbrev pub runs_start : List Run → List Run → Bool
+runs_start = all_begin (λ x y. is_eq (run_cmp x y)) run_starts (Number 0)
+
+abbrev pub components_start : List (List Run) → List (List Run) → Bool
+components_start = all_begin (λ x y. is_eq (runs_cmp x y)) runs_start []
+
+-- The version x starts with y: where y has a local part, epoch and main part are equal and the local parts decide.
+abbrev pub version_starts : List ℕ → List ℕ → Bool
+version_starts x y =
+    if length (local_of (plain y)) == 0 then components_start (main_of (plain x)) (main_of (plain y))
+    else is_eq (components_cmp (main_of (plain x)) (main_of (plain y))) && components_start (local_of (plain x)) (local_of (plain y))

@@ -1,0 +1,19 @@
+ghost use Rattle.std.specs.Prelude.{◌≡◌, List, ℕ, true};
+ghost use Rattle.std.specs.Cmp.{IsTotalOrder};
+ghost use Rattle.std.specs.Ordering.{is_le, ordering_reverse};
+ghost use Rattle.std.specs.declared.cmp.Ordering.TheVariants.{Equal};
+ghost use Rattle.conda_version.specs.Order.{version_cmp};
+ghost use Rattle.conda_version.specs.Text.{trimmed};
+
+/// The order of versions is a total preorder: versions that it finds equal may have other texts.
+pub fn order_laws()
+    ensures reflexive { (v : List ℕ) → version_cmp v v ≡ Equal }
+    ensures transitive { (u v w : List ℕ) → is_le (version_cmp u v) ≡ true → is_le (version_cmp v w) ≡ true → is_le (version_cmp u w) ≡ true }
+    ensures total { (v w : List ℕ) → version_cmp v w ≡ ordering_reverse (version_cmp w v) }
+    ensures equals { (u v w : List ℕ) → version_cmp u v ≡ Equal → version_cmp u w ≡ version_cmp v w }
+{}
+
+/// What is trimmed has no more spaces at its ends.
+pub fn trimmed_law()
+    ensures { (text : List ℕ) → trimmed (trimmed text) ≡ trimmed text }
+{}
