@@ -1,0 +1,4 @@
+pub mod StampLemmas
+pub mod LineLemmas
+pub mod TextLemmas
+pub mod SetLemmas

@@ -1,0 +1,4 @@
+pub mod Stamps
+pub mod Blocks
+pub mod Sets
+pub mod Reading

@@ -1,0 +1,14 @@
+//! The history of an environment: its text, read, and the set of packages that it leaves.
+#![tactic(auto)]
+
+mod line;
+mod read;
+mod replay;
+mod revision;
+mod stamp;
+
+pub use revision::{Block, History, HistoryErr};
+pub use stamp::Stamp;
+
+#[cfg(test)]
+mod tests;
