@@ -1,0 +1,5 @@
+pub mod Left
+pub mod Literals
+pub mod LogText
+pub mod Reader
+pub mod Refutation

@@ -1,0 +1,16 @@
+//! Refutations: a log of steps that shows that no assignment makes all of its input clauses true, and the check of such a log.
+#![tactic(auto)]
+
+mod checking;
+mod clause;
+mod falses;
+mod log;
+mod reader;
+mod text;
+
+pub use checking::{check, no_assignment_is_left};
+pub use clause::Clause;
+pub use log::{Log, RefuteErr, Step};
+
+#[cfg(test)]
+mod tests;
