@@ -1,0 +1,6 @@
+pub mod ListLemmas
+pub mod LaneLemmas
+pub mod TreeLemmas
+pub mod HostLemmas
+pub mod GatherLemmas
+pub mod PlaceLemmas

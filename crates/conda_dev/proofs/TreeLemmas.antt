@@ -1,0 +1,97 @@
+-- The tree that the entries of a `BTreeMap` make.
+use Rattle.std.proofs.Common.{◌≡◌, ◌==◌, ℕ, List, [], ◌∷◌, Bool, true, false, true≢false, cond, Option, Some, None, is_some, refl, ap, sym, ◌∙◌}
+use Rattle.std.specs.Ordering.{nat_cmp, is_eq}
+use Rattle.std.specs.declared.cmp.Ordering.{Ordering}
+use Rattle.std.specs.declared.cmp.Ordering.TheVariants.{Less, Equal, Greater}
+use Rattle.std.specs.Cmp.{eq_by_cmp_equiv}
+use Rattle.std.specs.Cmp.Lexicographic.{slice_cmp, nat_list_cmp_total}
+use Rattle.std.specs.Map.{lookup}
+use Rattle.std.specs.BTreeMap.{is_at}
+use Rattle.std.specs.FinMap as map
+use Rattle.std.proofs.lemmas.Map.Lookups.{exact_bytes}
+use Rattle.conda_path.specs.declared.values.Node.{Node}
+use Rattle.conda_path.specs.Lanes.{lane_number}
+use Rattle.conda_dev.specs.Tree.{Tree, first_of, in_share}
+
+abbrev pub Entries : Type 0
+Entries = List (List ℕ × Node)
+
+abbrev pub tree_of : Entries → Tree
+tree_of es = map.from_entries es
+
+find_lookup : (es : Entries) (p : List ℕ) → map.find (slice_cmp nat_cmp) p es ≡ lookup (is_at (slice_cmp nat_cmp p)) es
+find_lookup [] p = refl
+find_lookup (e ∷ es) p = ap (cond (is_at (slice_cmp nat_cmp p) e.0) (Some e.1)) (find_lookup es p)
+
+-- what it has at a path
+pub get_tree : (es : Entries) (p : List ℕ) → map.get (tree_of es) p ≡ lookup (is_at (slice_cmp nat_cmp p)) es
+get_tree es p = map.get-from_entries nat_list_cmp_total es p ∙ find_lookup es p
+
+-- entries that differ at one path make trees that differ there
+pub one_put : (es fs : Entries) (p : List ℕ) (n : Node)
+    → ((q : List ℕ) → lookup (is_at (slice_cmp nat_cmp q)) fs ≡ cond (is_at (slice_cmp nat_cmp p) q) (Some n) (lookup (is_at (slice_cmp nat_cmp q)) es))
+    → tree_of fs ≡ map.insert (tree_of es) p n
+one_put es fs p n h = map.same_map nat_list_cmp_total exact_bytes _ _ (λ q.
+    get_tree fs q ∙ h q ∙ ap (λ b. cond b (Some n) (lookup (is_at (slice_cmp nat_cmp q)) es)) ((eq_by_cmp_equiv nat_list_cmp_total).symm p q)
+    ∙ sym (map.get-insert nat_list_cmp_total (tree_of es) p n q ∙ ap (cond (is_at (slice_cmp nat_cmp q) p) (Some n)) (get_tree es q)))
+
+-- ---- the nodes of one share, one path after another
+
+-- what entries have at a path
+abbrev pub at_path : Entries → List ℕ → Option Node
+at_path es q = lookup (is_at (slice_cmp nat_cmp q)) es
+
+tied : (o : Ordering) → is_eq o ≡ true → o ≡ Equal
+tied Less e = absurd (true≢false (sym e))
+tied Equal e = refl
+tied Greater e = absurd (true≢false (sym e))
+
+pub keyed : (q p : List ℕ) → is_at (slice_cmp nat_cmp q) p ≡ true → q ≡ p
+keyed q p t = exact_bytes q p (tied (slice_cmp nat_cmp q p) t)
+
+settled : (found a b : Option Node) → is_some found ≡ true → first_of found a ≡ first_of found b
+settled None a b e = absurd (true≢false (sym e))
+settled (Some node) a b e = refl
+
+module _ (made : Tree) (number lanes : ℕ) (p : List ℕ) (n : Node) (rest : Entries) (q : List ℕ) where
+  pub share_put : (lane_number p lanes == number) ≡ true → map.get made p ≡ None
+      → first_of (map.get (map.insert made p n) q) (in_share number lanes q (at_path rest q)) ≡ first_of (map.get made q) (in_share number lanes q (at_path ((p, n) ∷ rest) q))
+  share_put inside none =
+      let put = map.get-insert nat_list_cmp_total made p n q in
+      elim (is_at (slice_cmp nat_cmp q) p) as (λ b. is_at (slice_cmp nat_cmp q) p ≡ b → first_of (map.get (map.insert made p n) q) (in_share number lanes q (at_path rest q)) ≡ first_of (map.get made q) (in_share number lanes q (cond b (Some n) (at_path rest q)))) [
+        | true ↦ λ t.
+            let e : q ≡ p = keyed q p t in
+            ap (λ o. first_of o (in_share number lanes q (at_path rest q))) (put ∙ ap (λ b. cond b (Some n) (map.get made q)) t)
+            ∙ sym (ap (λ o. first_of o (in_share number lanes q (Some n))) (ap (map.get made) e ∙ none) ∙ ap (λ b. cond b (Some n) None) (ap (λ x. lane_number x lanes == number) e ∙ inside))
+        | false ↦ λ f. ap (λ o. first_of o (in_share number lanes q (at_path rest q))) (put ∙ ap (λ b. cond b (Some n) (map.get made q)) f)
+      ] refl
+
+  pub share_elsewhere : (lane_number p lanes == number) ≡ false
+      → first_of (map.get made q) (in_share number lanes q (at_path rest q)) ≡ first_of (map.get made q) (in_share number lanes q (at_path ((p, n) ∷ rest) q))
+  share_elsewhere outside =
+      elim (is_at (slice_cmp nat_cmp q) p) as (λ b. is_at (slice_cmp nat_cmp q) p ≡ b → first_of (map.get made q) (in_share number lanes q (at_path rest q)) ≡ first_of (map.get made q) (in_share number lanes q (cond b (Some n) (at_path rest q)))) [
+        | true ↦ λ t.
+            let out : (lane_number q lanes == number) ≡ false = ap (λ x. lane_number x lanes == number) (keyed q p t) ∙ outside in
+            ap (first_of (map.get made q)) (ap (λ b. cond b (at_path rest q) None) out ∙ sym (ap (λ b. cond b (Some n) None) out))
+        | false ↦ λ f. refl
+      ] refl
+
+  pub share_there : is_some (map.get made p) ≡ true
+      → first_of (map.get made q) (in_share number lanes q (at_path rest q)) ≡ first_of (map.get made q) (in_share number lanes q (at_path ((p, n) ∷ rest) q))
+  share_there there =
+      elim (is_at (slice_cmp nat_cmp q) p) as (λ b. is_at (slice_cmp nat_cmp q) p ≡ b → first_of (map.get made q) (in_share number lanes q (at_path rest q)) ≡ first_of (map.get made q) (in_share number lanes q (cond b (Some n) (at_path rest q)))) [
+        | true ↦ λ t. settled (map.get made q) _ _ (ap (λ x. is_some (map.get made x)) (keyed q p t) ∙ there)
+        | false ↦ λ f. refl
+      ] refl
+
+nothing : (b : Bool) → cond {A = Option Node} b None None ≡ None
+nothing true = refl
+nothing false = refl
+
+pub share_none : (number lanes : ℕ) (q : List ℕ) (found : Option Node) → first_of found (in_share number lanes q None) ≡ found
+share_none number lanes q None = nothing (lane_number q lanes == number)
+share_none number lanes q (Some node) = refl
+
+pub none_of : (found : Option Node) → is_some found ≡ false → found ≡ None
+none_of None e = refl
+none_of (Some node) e = absurd (true≢false e)

@@ -1,0 +1,43 @@
+-- What the host in memory has of a prefix. This project's own.
+use Rattle.std.specs.Prelude.{ℕ, Bool, false, List, [], ◌∷◌, map, Option, Some, None, if◌then◌else◌}
+use Rattle.std.specs.Ordering.{nat_cmp}
+use Rattle.std.specs.Cmp.Lexicographic.{slice_cmp}
+use Rattle.std.specs.Map.{lookup}
+use Rattle.std.specs.BTreeMap.{is_at}
+use Rattle.std.specs.Str.{bytes_eq}
+use Rattle.std.specs.FinMap as trees
+use Rattle.conda_path.specs.declared.values.Node.{Node}
+use Rattle.conda_dev.specs.declared.mem_lane.MemLane.{MemLane}
+use Rattle.conda_dev.specs.declared.place.Place.{Place}
+use Rattle.conda_dev.specs.Tree.{Tree, first_of, together}
+
+-- the place of a prefix
+abbrev pub place_at : List (List ℕ × Place) → List ℕ → Option Place
+place_at places prefix = lookup (is_at (slice_cmp nat_cmp prefix)) places
+
+-- the trees of lanes
+abbrev pub trees_of : List MemLane → List Tree
+trees_of lanes = map (λ lane. lane.tree) lanes
+
+-- the trees of lanes, told
+abbrev pub told_of : List MemLane → List (Option Tree)
+told_of lanes = map (λ lane. Some lane.tree) lanes
+
+-- what is told of a place; a prefix without one has nothing
+abbrev pub told_in : Option Place → Option Tree
+told_in None = Some trees.empty
+told_in (Some place) = together (told_of place.lanes.items)
+
+abbrev pub lent_in : Option Place → Bool
+lent_in None = false
+lent_in (Some place) = place.lent
+
+-- what the first of several trees that has a path has there
+abbrev pub node_at : List Tree → List ℕ → Option Node
+node_at [] path = None
+node_at (tree ∷ rest) path = first_of (trees.get tree path) (node_at rest path)
+
+-- the tree that a list of prefixes and trees gives to one of them: of two entries the last counts
+abbrev pub given : List (List ℕ × Tree) → Option Tree → List ℕ → Option Tree
+given [] told prefix = told
+given (entry ∷ rest) told prefix = given rest (if bytes_eq prefix entry.0 then Some entry.1 else told) prefix

@@ -1,0 +1,176 @@
+ghost use Rattle.std.specs.Prelude.{◌≡◌, IfOk};
+ghost use Rattle.conda_dev.specs.Plan.{is_lane, plan_of, same_target};
+
+use conda_base::Copied;
+use conda_path::Prefix;
+use std::alloc::{AllocError, Global};
+
+/// The device failed. Its count of faults says so too.
+#[derive(Clone, Copy, Debug, PartialEq, Eq)]
+pub struct Failed;
+
+/// Why a call that hands out bytes or handles has no answer.
+#[derive(Clone, Copy, Debug, PartialEq, Eq)]
+pub enum DeviceErr {
+    /// The device failed. Its count of faults says so too.
+    Failed,
+    /// There was no memory for the answer. No count of faults rises.
+    Memory,
+}
+
+/// Whether a call that is to fail has its effect first.
+#[derive(Clone, Copy, Debug, PartialEq, Eq)]
+pub enum Effect {
+    Before,
+    After,
+}
+
+/// A memory form whose calls are to fail.
+#[derive(Debug, Drop)]
+pub enum Target {
+    /// The lanes of a prefix with this number, one after another. `MemLane::make` passes over the prefix.
+    Lane { prefix: Prefix, number: u32 },
+    Host,
+    Input,
+    Output,
+}
+
+/// One call that is to fail, before or after its effect. Only calls that can fail are counted, from 1.
+/// Of two entries for one call the first counts.
+#[derive(Debug, Drop)]
+pub struct FailAt {
+    pub on: Target,
+    pub call: u64,
+    pub effect: Effect,
+}
+
+/// A call of one memory form that is to fail.
+#[derive(Clone, Copy, Debug, PartialEq, Eq)]
+pub struct Planned {
+    pub call: u64,
+    pub effect: Effect,
+}
+
+impl Effect {
+    /// An equal value.
+    pub fn copy(&self, _alloc: Global) -> Result<Effect, AllocError>
+        ensures { IfOk result (λ made. made ≡ self.now) }
+    {
+        Ok(*self)
+    }
+}
+
+impl Copied for Effect {
+    fn copied(&self, alloc: Global) -> Result<Effect, AllocError> {
+        self.copy(alloc)
+    }
+}
+
+impl Target {
+    /// An equal value.
+    pub fn copy(&self, alloc: Global) -> Result<Target, AllocError>
+        ensures { IfOk result (λ made. made ≡ self.now) }
+    {
+        match self {
+            Target::Lane { prefix, number } => Ok(Target::Lane {
+                prefix: prefix.copy(alloc)?,
+                number: *number,
+            }),
+            Target::Host => Ok(Target::Host),
+            Target::Input => Ok(Target::Input),
+            Target::Output => Ok(Target::Output),
+        }
+    }
+}
+
+impl Copied for Target {
+    fn copied(&self, alloc: Global) -> Result<Target, AllocError> {
+        self.copy(alloc)
+    }
+}
+
+impl FailAt {
+    /// An equal value.
+    pub fn copy(&self, alloc: Global) -> Result<FailAt, AllocError>
+        ensures { IfOk result (λ made. made ≡ self.now) }
+    {
+        Ok(FailAt {
+            on: self.on.copy(alloc)?,
+            call: self.call,
+            effect: self.effect,
+        })
+    }
+}
+
+impl Copied for FailAt {
+    fn copied(&self, alloc: Global) -> Result<FailAt, AllocError> {
+        self.copy(alloc)
+    }
+}
+
+fn is_same(target: &Target, on: &Target) -> bool
+    ensures { result ≡ same_target target.now on.now }
+{
+    match (target, on) {
+        (
+            Target::Lane { prefix, number },
+            Target::Lane {
+                prefix: other,
+                number: place,
+            },
+        ) => { prefix == other && number == place }
+        (Target::Host, Target::Host) => true,
+        (Target::Input, Target::Input) => true,
+        (Target::Output, Target::Output) => true,
+        _ => false,
+    }
+}
+
+/// The calls of a target that are to fail.
+pub fn plan_for(
+    alloc: Global,
+    fails: &[FailAt],
+    target: &Target,
+) -> Result<Vec<Planned>, AllocError>
+    ensures { IfOk result (λ plan. plan.items ≡ plan_of (same_target target.now) fails.now) }
+{
+    let mut plan = Vec::new(alloc);
+    for fail in fails {
+        if is_same(target, &fail.on) {
+            plan.push(Planned {
+                call: fail.call,
+                effect: fail.effect,
+            })?;
+        }
+    }
+    Ok(plan)
+}
+
+fn is_lane_with(number: u32, on: &Target) -> bool
+    ensures { result ≡ is_lane number on.now }
+{
+    match on {
+        Target::Lane { number: other, .. } => *other == number,
+        _ => false,
+    }
+}
+
+/// The calls of a lane that are to fail, whatever its prefix is.
+pub fn plan_for_lane(
+    alloc: Global,
+    fails: &[FailAt],
+    number: u32,
+) -> Result<Vec<Planned>, AllocError>
+    ensures { IfOk result (λ plan. plan.items ≡ plan_of (is_lane number) fails.now) }
+{
+    let mut plan = Vec::new(alloc);
+    for fail in fails {
+        if is_lane_with(number, &fail.on) {
+            plan.push(Planned {
+                call: fail.call,
+                effect: fail.effect,
+            })?;
+        }
+    }
+    Ok(plan)
+}

@@ -1,0 +1,157 @@
+ghost use Rattle.std.specs.Prelude.{◌≡◌, ◌≤◌, ℕ, [], List, length, take, drop, Option, Some, IfOk, OnOk, OnErr, IfSome};
+ghost use Rattle.conda_dev.specs.Fault.{HasCause, HasDeviceCause};
+ghost use Rattle.conda_dev.specs.Streams.{appended, led_by};
+
+use crate::fault::{DeviceErr, Effect, FailAt, Failed, Target, plan_for};
+use crate::meter::Meter;
+use std::alloc::{AllocError, Global};
+
+/// An input.
+pub trait In {
+    /// The bytes that are left, where it tells them.
+    ghost left: { Self → Option (List ℕ) };
+    /// The count of faults.
+    ghost faults: { Self → ℕ };
+
+    /// How often it failed. The count never falls, and stands still at the last value of its type.
+    fn faults(&self) -> u64
+        ensures { result ≡ faults self.now };
+
+    /// At most `max` of the bytes that are left: at least one, or none at the end.
+    /// After an error some of them may be lost.
+    fn take(&mut self, alloc: Global, max: usize) -> Result<Vec<u8>, DeviceErr>
+        requires { 1 ≤ max }
+        ensures bound { IfOk result (λ taken. length taken.items ≤ max) }
+        ensures first { IfOk result (λ taken. left self.old ≡ led_by taken.items (left self.new)) }
+        ensures end { IfOk result (λ taken. taken.items ≡ [] → IfSome (left self.old) (λ bytes. bytes ≡ [])) }
+        ensures err { OnErr result ((lost : List ℕ) × (left self.old ≡ led_by lost (left self.new))) }
+        ensures cause { HasDeviceCause (faults self.old) (faults self.new) result };
+}
+
+/// An output.
+pub trait Out {
+    /// All that was put, where it tells it.
+    ghost told: { Self → Option (List ℕ) };
+    /// The count of faults.
+    ghost faults: { Self → ℕ };
+
+    /// How often it failed. The count never falls, and stands still at the last value of its type.
+    fn faults(&self) -> u64
+        ensures { result ≡ faults self.now };
+
+    /// Appends all of the bytes. After a failure some first part of them was appended.
+    fn put(&mut self, bytes: &[u8]) -> Result<(), Failed>
+        ensures ok { OnOk result (told self.new ≡ appended (told self.old) bytes.now) }
+        ensures err { OnErr result ((n : ℕ) × (told self.new ≡ appended (told self.old) (take n bytes.now))) }
+        ensures cause { HasCause (faults self.old) (faults self.new) result };
+}
+
+/// An input of given bytes.
+#[derive(Debug, Drop)]
+pub struct MemIn {
+    bytes: Vec<u8>,
+    at: usize,
+    meter: Meter,
+}
+
+impl MemIn {
+    /// An input that has all of the bytes left.
+    pub fn make(alloc: Global, bytes: Vec<u8>, fails: Vec<FailAt>) -> Result<MemIn, AllocError>
+        ensures left { IfOk result (λ input. ⟦<MemIn as In>⟧.left input ≡ Some bytes.items) }
+        ensures unharmed { IfOk result (λ input. ⟦<MemIn as In>⟧.faults input ≡ 0) }
+    {
+        let plan = plan_for(alloc, &fails, &Target::Input)?;
+        Ok(MemIn {
+            bytes,
+            at: 0,
+            meter: Meter::new(plan),
+        })
+    }
+}
+
+impl In for MemIn {
+    ghost left = { λ input. Some (drop input.at input.bytes.items) };
+
+    ghost faults = { λ input. input.meter.faults };
+
+    fn faults(&self) -> u64 {
+        self.meter.faults
+    }
+
+    fn take(&mut self, alloc: Global, max: usize) -> Result<Vec<u8>, DeviceErr> {
+        let effect = self.meter.next();
+        if effect == Some(Effect::Before) {
+            self.meter.fail();
+            return Err(DeviceErr::Failed);
+        }
+        let rest = rest_of(&self.bytes, self.at);
+        let count = rest.len().min(max);
+        let taken = match Vec::from_slice(alloc, &rest[..count]) {
+            Ok(taken) => taken,
+            Err(_) => return Err(DeviceErr::Memory),
+        };
+        self.at += count;
+        if effect == Some(Effect::After) {
+            self.meter.fail();
+            return Err(DeviceErr::Failed);
+        }
+        Ok(taken)
+    }
+}
+
+fn rest_of(bytes: &[u8], at: usize) -> &[u8]
+    ensures { result.now ≡ drop at bytes.now }
+{
+    if at < bytes.len() { &bytes[at..] } else { &[] }
+}
+
+/// An output that keeps what was put.
+#[derive(Debug, Drop)]
+pub struct MemOut {
+    bytes: Vec<u8>,
+    meter: Meter,
+}
+
+impl MemOut {
+    /// An output to which nothing was put.
+    pub fn make(alloc: Global, fails: Vec<FailAt>) -> Result<MemOut, AllocError>
+        ensures told { IfOk result (λ out. ⟦<MemOut as Out>⟧.told out ≡ Some []) }
+        ensures unharmed { IfOk result (λ out. ⟦<MemOut as Out>⟧.faults out ≡ 0) }
+    {
+        let plan = plan_for(alloc, &fails, &Target::Output)?;
+        Ok(MemOut {
+            bytes: Vec::new(alloc),
+            meter: Meter::new(plan),
+        })
+    }
+
+    /// What was put. It takes no memory.
+    pub fn bytes(&self) -> &[u8]
+        ensures { ⟦<MemOut as Out>⟧.told self.now ≡ Some result.now }
+    {
+        self.bytes.as_slice()
+    }
+}
+
+impl Out for MemOut {
+    ghost told = { λ out. Some out.bytes.items };
+
+    ghost faults = { λ out. out.meter.faults };
+
+    fn faults(&self) -> u64 {
+        self.meter.faults
+    }
+
+    fn put(&mut self, bytes: &[u8]) -> Result<(), Failed> {
+        let effect = self.meter.next();
+        if effect == Some(Effect::Before) || self.bytes.extend_from_slice(bytes).is_err() {
+            self.meter.fail();
+            return Err(Failed);
+        }
+        if effect == Some(Effect::After) {
+            self.meter.fail();
+            return Err(Failed);
+        }
+        Ok(())
+    }
+}

@@ -1,0 +1,101 @@
+ghost use Rattle.std.specs.Prelude.{◌≡◌, ◌≤◌, ℕ, List, is_some, IfOk, OnOk, OnErr};
+ghost use Rattle.std.specs.FinMap as map;
+ghost use Rattle.std.specs.Option.{option_copied};
+ghost use Rattle.conda_dev.specs.Tree.{first_of, in_share};
+
+use conda_base::Copied;
+use conda_path::{Node, RelPath, lane_of};
+use std::alloc::{AllocError, Global};
+use std::collections::BTreeMap;
+use std::marker::Model;
+
+/// Paths and their nodes, ascending by path.
+#[derive(Debug, Drop)]
+pub struct Tree {
+    nodes: BTreeMap<RelPath, Node>,
+}
+
+impl Model for Tree {
+    ghost use Rattle.std.specs.FinMap as map;
+    ghost use Rattle.conda_dev.specs.Tree as tree;
+
+    ghost Value = { tree.Tree };
+
+    ghost coded = { tree.coded_tree };
+
+    ghost view = { λ t. map.from_entries t.nodes.entries };
+}
+
+impl Tree {
+    /// No paths. It takes no memory.
+    pub fn new(alloc: Global) -> Tree
+        ensures { result ≡ map.empty }
+    {
+        Tree {
+            nodes: BTreeMap::new(alloc),
+        }
+    }
+
+    /// The node at a path. It takes no memory.
+    pub fn get(&self, path: &RelPath) -> Option<&Node>
+        ensures { option_copied result ≡ map.get self.now path.now }
+    {
+        self.nodes.get(path)
+    }
+
+    /// Whether a node is at a path. It takes no memory.
+    pub fn contains(&self, path: &RelPath) -> bool
+        ensures { result ≡ is_some (map.get self.now path.now) }
+    {
+        self.nodes.contains_key(path)
+    }
+
+    /// Puts a node, whatever was there.
+    pub fn put(&mut self, path: RelPath, node: Node) -> Result<(), AllocError>
+        ensures ok { OnOk result (self.new ≡ map.insert self.old path node) }
+        ensures err { OnErr result (self.new ≡ self.old) }
+    {
+        self.nodes.insert(path, node)?;
+        Ok(())
+    }
+}
+
+impl Tree {
+    /// An equal tree.
+    pub fn copy(&self, alloc: Global) -> Result<Tree, AllocError>
+        ensures { IfOk result (λ made. made ≡ self.now) }
+    {
+        let mut made = Tree::new(alloc);
+        add_share(alloc, &mut made, self, 0, 1)?;
+        Ok(made)
+    }
+}
+
+impl Copied for Tree {
+    fn copied(&self, alloc: Global) -> Result<Tree, AllocError> {
+        self.copy(alloc)
+    }
+}
+
+/// Adds equal nodes for the paths of `from` in the share of this number, where none is yet.
+pub fn add_share(
+    alloc: Global,
+    made: &mut Tree,
+    from: &Tree,
+    number: u32,
+    lanes: u32,
+) -> Result<(), AllocError>
+    requires { 1 ≤ lanes }
+    ensures ok { OnOk result ((path : List ℕ) → map.get made.new path ≡ first_of (map.get made.old path) (in_share number lanes path (map.get from.now path))) }
+{
+    for (path, node) in from.nodes.iter() {
+        if lane_of(path, lanes) != number {
+            continue;
+        }
+        if made.contains(path) {
+            continue;
+        }
+        made.put(path.copy(alloc)?, node.copy(alloc)?)?;
+    }
+    Ok(())
+}

@@ -1,0 +1,2 @@
+pub mod RealLanes
+pub mod Lent

@@ -1,0 +1,13 @@
+//! The devices of the machine: its folders, standard input and output, and its clock. They tell nothing of content.
+#![tactic(auto)]
+
+mod clock;
+mod counts;
+mod host;
+mod lane;
+mod streams;
+
+pub use clock::RealClock;
+pub use host::RealHost;
+pub use lane::RealLane;
+pub use streams::{RealIn, RealOut};
