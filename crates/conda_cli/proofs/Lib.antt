@@ -1,0 +1,4 @@
+pub mod NameOrder
+pub mod FoundLemmas
+pub mod ListLemmas
+pub mod RunLemmas

@@ -1,0 +1,97 @@
+ghost use Rattle.std.specs.Prelude.{◌≡◌, IfOk, IsSome, [], string_bytes, unwrap_or};
+ghost use Rattle.std.specs.Option.{option_copied};
+ghost use Rattle.conda_cli.specs.Faults.{fault_text, status_of, why_text};
+
+use conda_path::Prefix;
+use std::alloc::{AllocError, Global};
+
+/// What is wrong with the word that a usage fault names.
+#[derive(Clone, Copy, Debug, PartialEq, Eq)]
+pub enum Why {
+    /// There is no such command or option.
+    Unknown,
+}
+
+impl Why {
+    /// The printed word. It takes no memory.
+    pub fn word(self) -> &'static str
+        ensures { result.now ≡ why_text self }
+    {
+        match self {
+            Why::Unknown => "unknown",
+        }
+    }
+}
+
+/// Why a command has no report.
+#[derive(Clone, Copy, Debug, PartialEq, Eq)]
+pub enum Fault {
+    /// The words are no command: the number of the first offending word, from 0, and why.
+    Usage { at: u64, why: Why },
+    /// There is no environment at the prefix.
+    NoEnv,
+    /// The environment's history doesn't read: the number of the first bad line, from 1.
+    BadHistory { line: u64 },
+    /// A lane of the prefix failed.
+    EnvFault,
+    /// The host failed.
+    HostFault,
+    /// There was no memory.
+    Memory,
+}
+
+impl Fault {
+    /// The status with which the program ends. It takes no memory.
+    pub fn status(self) -> u8
+        ensures { result ≡ status_of self }
+    {
+        match self {
+            Fault::NoEnv => 1,
+            Fault::Usage { .. } | Fault::BadHistory { .. } => 2,
+            Fault::EnvFault | Fault::HostFault => 3,
+            Fault::Memory => 5,
+        }
+    }
+}
+
+fn usage_line(alloc: Global, at: u64, why: Why) -> Result<String, AllocError>
+    ensures { IfOk result (λ line. string_bytes line ≡ fault_text (Fault.Usage at why) []) }
+{
+    let word = why.word();
+    format!(in alloc; "usage: {at} {word}\n")
+}
+
+fn no_env_line(alloc: Global, prefix: &Prefix) -> Result<String, AllocError>
+    ensures { IfOk result (λ line. string_bytes line ≡ fault_text Fault.NoEnv prefix.now) }
+{
+    let prefix = prefix.as_str();
+    format!(in alloc; "no environment at {prefix}\n")
+}
+
+fn bad_history_line(alloc: Global, line: u64) -> Result<String, AllocError>
+    ensures { IfOk result (λ text. string_bytes text ≡ fault_text (Fault.BadHistory line) []) }
+{
+    format!(in alloc; "bad history: line {line}\n")
+}
+
+/// The printed line of a fault, with its newline. `NoEnv` names the prefix.
+pub fn fault_line(
+    alloc: Global,
+    fault: Fault,
+    prefix: Option<&Prefix>,
+) -> Result<String, AllocError>
+    requires { fault ≡ Fault.NoEnv → IsSome prefix }
+    ensures { IfOk result (λ line. string_bytes line ≡ fault_text fault (unwrap_or (option_copied prefix.entry) [])) }
+{
+    match fault {
+        Fault::Usage { at, why } => usage_line(alloc, at, why),
+        Fault::NoEnv => match prefix {
+            Some(prefix) => no_env_line(alloc, prefix),
+            None => unreachable!(),
+        },
+        Fault::BadHistory { line } => bad_history_line(alloc, line),
+        Fault::EnvFault => String::from_str(alloc, "environment fault\n"),
+        Fault::HostFault => String::from_str(alloc, "host fault\n"),
+        Fault::Memory => String::from_str(alloc, "out of memory\n"),
+    }
+}

@@ -1,0 +1,17 @@
+//! The program's commands over any devices: words in, text and a status out.
+#![tactic(auto)]
+
+mod fault;
+mod history_file;
+mod listing;
+mod report;
+mod runs;
+mod say;
+mod words;
+
+pub use fault::{Fault, Why, fault_line};
+pub use runs::{Ended, run, run_one};
+pub use words::Command;
+
+#[cfg(test)]
+mod tests;
