@@ -93,16 +93,11 @@ fn a_host_fails_and_goes_on_counting(rt: HostRuntime) -> Result<(), Fail> {
     })?;
     fails.push(lane_at(alloc, 0, 2, Effect::Before)?)?;
     let mut host = MemHost::make(alloc, prefixes, fails)?;
-    assert!(rt; look(alloc, &mut host, &prefix, &path).is_some());
-    assert_eq!(rt; host.faults(), 0);
-    // the host fails
-    assert!(rt; look(alloc, &mut host, &prefix, &path).is_none());
-    assert_eq!(rt; host.faults(), 1);
-    // the first look of the second lane is the second call of its number
-    assert!(rt; look(alloc, &mut host, &prefix, &path).is_none());
-    assert_eq!(rt; host.faults(), 1);
-    assert!(rt; look(alloc, &mut host, &prefix, &path).is_some());
-    assert_eq!(rt; host.faults(), 1);
+    // The first lane looks; the host fails; the second lane's first look is its number's second call; the third looks.
+    for (found, faults) in [(true, 0), (false, 1), (false, 1), (true, 1)] {
+        assert_eq!(rt; look(alloc, &mut host, &prefix, &path).is_some(), found);
+        assert_eq!(rt; host.faults(), faults);
+    }
     assert!(rt; host.tree(alloc, &prefix)?.contains(&path));
     Ok(())
 }
