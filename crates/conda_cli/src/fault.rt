@@ -77,13 +77,13 @@ fn bad_history_line(alloc: Global, line: u64) -> Result<String, AllocError>
 /// The printed line of a fault, with its newline. `NoEnv` names the prefix.
 pub fn fault_line(
     alloc: Global,
-    fault: Fault,
+    fault: &Fault,
     prefix: Option<&Prefix>,
 ) -> Result<String, AllocError>
-    requires { fault ≡ Fault.NoEnv → IsSome prefix }
-    ensures { IfOk result (λ line. string_bytes line ≡ fault_text fault (unwrap_or (option_copied prefix.entry) [])) }
+    requires { fault.now ≡ Fault.NoEnv → IsSome prefix }
+    ensures { IfOk result (λ line. string_bytes line ≡ fault_text fault.now (unwrap_or (option_copied prefix.entry) [])) }
 {
-    match fault {
+    match *fault {
         Fault::Usage { at, why } => usage_line(alloc, at, why),
         Fault::NoEnv => match prefix {
             Some(prefix) => no_env_line(alloc, prefix),

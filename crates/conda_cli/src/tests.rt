@@ -188,3 +188,13 @@ fn faults(rt: HostRuntime) -> Result<(), Fail> {
     }
     Ok(())
 }
+
+#[test]
+fn commands_are_copied(rt: HostRuntime) -> Result<(), Fail> {
+    let alloc = rt.alloc();
+    let command = Command::List {
+        prefix: Prefix::read(alloc, "/e")?,
+    };
+    assert_eq!(rt; command.copy(alloc)?.prefix().as_str(), "/e");
+    Ok(())
+}

@@ -3,7 +3,7 @@ ghost use Rattle.conda_cli.specs.Words.{listed_prefix, prefix_of};
 
 use crate::fault::{Fault, Why};
 use conda_path::{PathErr, Prefix};
-use std::alloc::Global;
+use std::alloc::{AllocError, Global};
 
 /// A command that the program knows.
 #[derive(Debug, Drop)]
@@ -13,6 +13,18 @@ pub enum Command {
 }
 
 impl Command {
+    /// An equal command.
+    pub fn copy(&self, alloc: Global) -> Result<Command, AllocError>
+        ensures { IfOk result (λ made. made ≡ self.now) }
+    {
+        match self {
+            Command::List { prefix } => {
+                let prefix = prefix.copy(alloc)?;
+                Ok(Command::List { prefix })
+            }
+        }
+    }
+
     /// The prefix that the command names. It takes no memory.
     pub fn prefix(&self) -> &Prefix
         ensures { result.now ≡ prefix_of self.now }
