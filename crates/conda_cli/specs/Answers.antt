@@ -1,5 +1,5 @@
 -- What the program answers, and why. This project's own.
-use Rattle.std.specs.Prelude.{◌≡◌, ◌⊎◌, ℕ, ◌<◌, ◌≤◌, ◌↔◌, List, length, take, codes, Option, Some, None, option_map, IfSome, Result, Ok, Err, String, string_bytes}
+use Rattle.std.specs.Prelude.{◌≡◌, ◌⊎◌, ℕ, ◌<◌, ◌≤◌, ◌↔◌, List, [], length, take, codes, Option, Some, None, option_map, IfSome, Result, Ok, Err, String, string_bytes}
 use Rattle.std.specs.declared.alloc.Global.{Global}
 use Rattle.std.specs.FinMap as map
 use Rattle.std.specs.Ordering.{nat_cmp}
@@ -104,6 +104,10 @@ IsGiven answer status before now =
 -- some answer of this kind was given
 abbrev pub Gives : (Answer → Type 0) → ℕ → Output → Output → Type 0
 Gives IsIt status before now = (answer : Answer) × IsIt answer × IsGiven answer status before now
+
+-- this fault's line was given, or there was no memory
+abbrev pub Refuses : Fault → ℕ → Output → Output → Type 0
+Refuses fault status before now = Gives (λ answer. (answer ≡ refusal fault []) ⊎ (answer ≡ refusal Memory [])) status before now
 
 -- ---- a run of `list`
 

@@ -2,12 +2,20 @@
 use Rattle.std.specs.Prelude.{ℕ, List, [], ◌∷◌, ◌++◌, codes, decimal}
 use Rattle.conda_cli.specs.declared.fault.Fault.{Fault}
 use Rattle.conda_cli.specs.declared.fault.Fault.TheVariants.{Usage, NoEnv, BadHistory, EnvFault, HostFault, Memory}
-use Rattle.conda_cli.specs.declared.fault.Why.{Why}
-use Rattle.conda_cli.specs.declared.fault.Why.TheVariants.{Unknown}
+use Rattle.conda_words.specs.declared.error.Why.{Why}
+use Rattle.conda_words.specs.declared.error.Why.TheVariants.{Unknown, Missing, Extra, Twice, Number, Path, Channel, Nested, Limit}
 
 -- the word for what is wrong with a word of the command line
 abbrev pub why_text : Why → List ℕ
 why_text Unknown = codes "unknown"
+why_text Missing = codes "missing"
+why_text Extra = codes "extra"
+why_text Twice = codes "twice"
+why_text Number = codes "number"
+why_text Path = codes "path"
+why_text Channel = codes "channel"
+why_text Nested = codes "nested"
+why_text Limit = codes "limit"
 
 -- the line of a fault, in a run on this prefix
 abbrev pub fault_text : Fault → List ℕ → List ℕ

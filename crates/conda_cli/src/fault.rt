@@ -3,30 +3,30 @@ ghost use Rattle.std.specs.Option.{option_copied};
 ghost use Rattle.conda_cli.specs.Faults.{fault_text, status_of, why_text};
 
 use conda_path::Prefix;
+use conda_words::Why;
 use std::alloc::{AllocError, Global};
 
-/// What is wrong with the word that a usage fault names.
-#[derive(Clone, Copy, Debug, PartialEq, Eq)]
-pub enum Why {
-    /// There is no such command or option.
-    Unknown,
-}
-
-impl Why {
-    /// The printed word. It takes no memory.
-    pub fn word(self) -> &'static str
-        ensures { result.now ≡ why_text self }
-    {
-        match self {
-            Why::Unknown => "unknown",
-        }
+/// The printed word for what is wrong with a word of the command line. It takes no memory.
+fn word_of(why: Why) -> &'static str
+    ensures { result.now ≡ why_text why }
+{
+    match why {
+        Why::Unknown => "unknown",
+        Why::Missing => "missing",
+        Why::Extra => "extra",
+        Why::Twice => "twice",
+        Why::Number => "number",
+        Why::Path => "path",
+        Why::Channel => "channel",
+        Why::Nested => "nested",
+        Why::Limit => "limit",
     }
 }
 
 /// Why a command has no report.
 #[derive(Clone, Copy, Debug, PartialEq, Eq)]
 pub enum Fault {
-    /// The words are no command: the number of the first offending word, from 0, and why.
+    /// The words are no command, or none that is built: the number of the first offending word, from 0, and why.
     Usage { at: u64, why: Why },
     /// There is no environment at the prefix.
     NoEnv,
@@ -57,7 +57,7 @@ impl Fault {
 fn usage_line(alloc: Global, at: u64, why: Why) -> Result<String, AllocError>
     ensures { IfOk result (λ line. string_bytes line ≡ fault_text (Fault.Usage at why) []) }
 {
-    let word = why.word();
+    let word = word_of(why);
     format!(in alloc; "usage: {at} {word}\n")
 }
 

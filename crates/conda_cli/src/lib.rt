@@ -9,9 +9,9 @@ mod runs;
 mod say;
 mod words;
 
-pub use fault::{Fault, Why, fault_line};
+pub use conda_words::{Command, Verb, Why};
+pub use fault::{Fault, fault_line};
 pub use runs::{Ended, run, run_one};
-pub use words::Command;
 
 #[cfg(test)]
 mod tests;

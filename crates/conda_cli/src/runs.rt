@@ -1,16 +1,18 @@
-ghost use Rattle.std.specs.Prelude.{◌≡◌, ◌⊎◌, ℕ, [], IfOk, IfSome, None, Some, false, map, string_bytes};
+ghost use Rattle.std.specs.Prelude.{◌≡◌, ◌≢◌, ◌⊎◌, ℕ, [], IfErr, IfOk, IfSome, List, None, OnOk, Some, false, map, string_bytes};
 ghost use Rattle.conda_dev.specs.Hosts.{SameOfAll};
-ghost use Rattle.conda_cli.specs.Answers.{Gives, IsListAnswer, RunsList, answer_of, refusal};
-ghost use Rattle.conda_cli.specs.Words.{listed_prefix, prefix_of};
-ghost use Rattle.std.specs.Prelude.{List};
+ghost use Rattle.conda_words.specs.Commands.{command_of};
+ghost use Rattle.conda_words.specs.Nested.{words_fault};
+ghost use Rattle.conda_cli.specs.Answers.{Gives, IsListAnswer, Refuses, RunsList, answer_of, refusal};
+ghost use Rattle.conda_cli.specs.Words.{IsRead, listed, waits};
 
-use crate::fault::{Fault, Why};
+use crate::fault::Fault;
 use crate::history_file::find_history;
 use crate::listing::list_of;
 use crate::say::give;
-use crate::words::{Command, read_command};
+use crate::words::{listed, waits};
 use conda_dev::{Clock, Host, In, Out};
 use conda_path::Prefix;
+use conda_words::{Command, Why, WordsErr, read_words};
 use std::alloc::Global;
 use std::sync::Wait;
 use std::thread::Threads;
@@ -38,18 +40,33 @@ fn list<H: Host>(alloc: Global, host: &mut H, prefix: &Prefix) -> Result<String,
     }
 }
 
-/// Runs one command, and waits for nobody.
-pub fn run_one<H: Host + Drop, K: Clock, I: In, O: Out, R: Threads>(
-    rt: &R,
+/// What a command is answered that isn't built yet.
+const UNBUILT: Fault = Fault::Usage {
+    at: 0,
+    why: Why::Unknown,
+};
+
+/// Puts out a refusal, and leaves the host as it is.
+fn refuse<H: Host + Drop, O: Out>(alloc: Global, fault: Fault, host: H, out: &mut O) -> Ended<H>
+    requires { fault ≢ Fault.NoEnv }
+    ensures refuses { Refuses fault result.status
+        (record { told = O.told out.old; faults = O.faults out.old })
+        (record { told = O.told out.new; faults = O.faults out.new }) }
+    ensures host { result.host ≡ host }
+{
+    let status = give(alloc, out, Err(fault), None);
+    Ended { status, host }
+}
+
+/// Lists the packages of the environment at a prefix, and puts the list out.
+fn run_list<H: Host + Drop, O: Out>(
     alloc: Global,
-    command: &Command,
+    prefix: &Prefix,
     host: H,
-    clock: &mut K,
-    input: &mut I,
     out: &mut O,
 ) -> Ended<H>
-    requires { (prefix : List ℕ) → H.lent host prefix ≡ false }
-    ensures list { RunsList (prefix_of command.now) result.status
+    requires { H.lent host prefix.now ≡ false }
+    ensures list { RunsList prefix.now result.status
         (record {
           trees = H.told host;
           counts = record { host = H.faults host; lanes = H.lane_faults host };
@@ -63,10 +80,47 @@ pub fn run_one<H: Host + Drop, K: Clock, I: In, O: Out, R: Threads>(
     ensures lent { SameOfAll (H.lent host) (H.lent result.host) }
 {
     let mut host = host;
-    let prefix = command.prefix();
     let report = list(alloc, &mut host, prefix);
     let status = give(alloc, out, report, Some(prefix));
     Ended { status, host }
+}
+
+/// Runs one command that `read_words` gave and that doesn't run in several threads. It waits for nobody.
+pub fn run_one<H: Host + Drop, K: Clock, I: In, O: Out, R: Threads>(
+    rt: &R,
+    alloc: Global,
+    command: &Command,
+    host: H,
+    clock: &mut K,
+    input: &mut I,
+    out: &mut O,
+) -> Ended<H>
+    requires read { IsRead command.now }
+    requires alone { waits command.now.verb ≡ false }
+    requires lent { (prefix : List ℕ) → H.lent host prefix ≡ false }
+    ensures list { IfSome (listed command.now) (λ prefix. RunsList prefix result.status
+        (record {
+          trees = H.told host;
+          counts = record { host = H.faults host; lanes = H.lane_faults host };
+          output = record { told = O.told out.old; faults = O.faults out.old };
+        })
+        (record {
+          trees = H.told result.host;
+          counts = record { host = H.faults result.host; lanes = H.lane_faults result.host };
+          output = record { told = O.told out.new; faults = O.faults out.new };
+        })) }
+    ensures unbuilt { listed command.now ≡ None → Refuses (Fault.Usage 0 Why.Unknown) result.status
+        (record { told = O.told out.old; faults = O.faults out.old })
+        (record { told = O.told out.new; faults = O.faults out.new }) }
+
+    // Whatever the command, every tree stays, and what was lent was taken back.
+    ensures trees { SameOfAll (H.told host) (H.told result.host) }
+    ensures lent { SameOfAll (H.lent host) (H.lent result.host) }
+{
+    match listed(command) {
+        Some(prefix) => run_list(alloc, prefix, host, out),
+        None => refuse(alloc, UNBUILT, host, out),
+    }
 }
 
 /// Reads the words of a command and runs it.
@@ -80,12 +134,15 @@ pub fn run<H: Host + Drop, K: Clock, I: In, O: Out, R: Threads + Wait>(
     out: &mut O,
 ) -> Ended<H>
     requires { (prefix : List ℕ) → H.lent host prefix ≡ false }
-    ensures usage { listed_prefix (map string_bytes words.now) ≡ None → Gives
-        (λ answer. (answer ≡ refusal (Fault.Usage 0 Why.Unknown) []) ⊎ (answer ≡ refusal Fault.Memory []))
-        result.status
+    ensures usage { IfSome (words_fault (map string_bytes words.now)) (λ found. Refuses (Fault.Usage found.0 found.1) result.status
+        (record { told = O.told out.old; faults = O.faults out.old })
+        (record { told = O.told out.new; faults = O.faults out.new })) }
+    ensures unbuilt { words_fault (map string_bytes words.now) ≡ None → listed (command_of (map string_bytes words.now)) ≡ None
+        → Refuses (Fault.Usage 0 Why.Unknown) result.status
         (record { told = O.told out.old; faults = O.faults out.old })
         (record { told = O.told out.new; faults = O.faults out.new }) }
-    ensures list { IfSome (listed_prefix (map string_bytes words.now)) (λ prefix. RunsList prefix result.status
+    ensures list { words_fault (map string_bytes words.now) ≡ None
+        → IfSome (listed (command_of (map string_bytes words.now))) (λ prefix. RunsList prefix result.status
         (record {
           trees = H.told host;
           counts = record { host = H.faults host; lanes = H.lane_faults host };
@@ -101,11 +158,14 @@ pub fn run<H: Host + Drop, K: Clock, I: In, O: Out, R: Threads + Wait>(
     ensures trees { SameOfAll (H.told host) (H.told result.host) }
     ensures lent { SameOfAll (H.lent host) (H.lent result.host) }
 {
-    match read_command(alloc, words) {
-        Ok(command) => run_one(rt, alloc, &command, host, clock, input, out),
-        Err(fault) => {
-            let status = give(alloc, out, Err(fault), None);
-            Ended { status, host }
+    match read_words(alloc, words) {
+        Ok(command) => {
+            if waits(command.verb) {
+                return refuse(alloc, UNBUILT, host, out);
+            }
+            run_one(rt, alloc, &command, host, clock, input, out)
         }
+        Err(WordsErr::Usage { at, why }) => refuse(alloc, Fault::Usage { at, why }, host, out),
+        Err(WordsErr::Memory) => refuse(alloc, Fault::Memory, host, out),
     }
 }

@@ -144,22 +144,41 @@ fn histories(rt: HostRuntime) -> Result<(), Fail> {
     Ok(())
 }
 
+/// The line that words are answered over an empty machine.
+fn line_of<R: Threads + Wait>(rt: &R, alloc: Global, words: &[&str]) -> Result<String, Fail> {
+    let ran = run_on(rt, alloc, words, None, None)?;
+    Ok(String::from_utf8_lossy(alloc, ran.text.as_slice())?)
+}
+
 #[test]
 fn words(rt: HostRuntime) -> Result<(), Fail> {
-    let rows: [&[&str]; 7] = [
-        &[],
-        &["list"],
-        &["list", "-p"],
-        &["list", "/e", "-p"],
-        &["list", "-p", "e"],
-        &["list", "-p", "/e", "/e"],
-        &["search", "-p", "/e"],
+    let rows: [(&[&str], &str); 14] = [
+        (&[], "usage: 0 missing\n"),
+        (&["lists"], "usage: 0 unknown\n"),
+        (&["list"], "usage: 1 missing\n"),
+        (&["list", "-p"], "usage: 2 missing\n"),
+        (&["list", "/e", "-p"], "usage: 1 extra\n"),
+        (&["list", "-p", "e"], "usage: 2 path\n"),
+        (&["list", "-p", "/e", "/e"], "usage: 3 extra\n"),
+        (&["list", "-p", "/e", "-p", "/e"], "usage: 3 twice\n"),
+        (&["search", "-p"], "usage: 1 unknown\n"),
+        (&["install", "-p", "/e"], "usage: 3 missing\n"),
+        (&["exercise", "0"], "usage: 1 number\n"),
+        (&["install", "-p", "/e", "a"], "usage: 0 unknown\n"),
+        (&["list", "-p", "/e", "--revisions"], "usage: 0 unknown\n"),
+        (&["batch"], "usage: 0 unknown\n"),
     ];
-    for words in rows {
-        let ran = run_on(&rt, rt.alloc(), words, None, None)?;
-        assert_eq!(rt; ran.status, 2);
-        assert_eq!(rt; ran.text.as_slice(), b"usage: 0 unknown\n".as_slice());
+    for (words, line) in rows {
+        let answer = line_of(&rt, rt.alloc(), words)?;
+        assert_eq!(rt; answer.as_str(), line);
     }
+    Ok(())
+}
+
+#[test]
+fn options_end_before_a_prefix(rt: HostRuntime) -> Result<(), Fail> {
+    let answer = line_of(&rt, rt.alloc(), &["list", "-p", "/e", "--"])?;
+    assert_eq!(rt; answer.as_str(), "no environment at /e\n");
     Ok(())
 }
 
@@ -186,15 +205,5 @@ fn faults(rt: HostRuntime) -> Result<(), Fail> {
         assert_eq!(rt; ran.text.as_slice(), text);
         assert!(rt; ran.kept);
     }
-    Ok(())
-}
-
-#[test]
-fn commands_are_copied(rt: HostRuntime) -> Result<(), Fail> {
-    let alloc = rt.alloc();
-    let command = Command::List {
-        prefix: Prefix::read(alloc, "/e")?,
-    };
-    assert_eq!(rt; command.copy(alloc)?.prefix().as_str(), "/e");
     Ok(())
 }

@@ -1,9 +1,8 @@
 -- Where the last dash stands, and that the test of a dist is its rule.
-use Rattle.std.proofs.Common.{◌≡◌, ◌≢◌, ℕ, ◌+◌, ◌-◌, ◌≤◌, ◌<◌, ◌⊎◌, Bool, true, false, ◌&&◌, ◌||◌, not, cond, eqb, List, [], ◌∷◌, ◌++◌, length, get_or, take, drop, suc, zero, refl, sym, ap, ◌∙◌, arith, inl, inr, subst, rules, length-append, length-drop, add-one}
-use Rattle.std.specs.Prelude.{nat_le, nat_eq}
-use Rattle.std.specs.List.{AllByRecursion, after_last, before_last, ends_with, list_any, suffix_len}
+use Rattle.std.proofs.Common.{◌≡◌, ◌≢◌, ℕ, ◌+◌, ◌-◌, ◌<◌, ◌⊎◌, Bool, true, false, ◌&&◌, ◌||◌, not, eqb, List, [], ◌∷◌, ◌++◌, length, get_or, take, drop, suc, zero, refl, sym, ap, ◌∙◌, arith, inl, inr, length-append, length-drop}
+use Rattle.std.specs.List.{AllByRecursion, after_last, before_last, list_any, suffix_len}
 use Rattle.std.proofs.lemmas.Bool.{eq-eqb, eqb-true, false≢true, le-leb, leb-true, true≢false}
-use Rattle.std.proofs.lemmas.List.{get_or-append-add, get_or-drop, take-append-drop, drop_more}
+use Rattle.std.proofs.lemmas.List.{get_or-drop, take-append-drop, drop_more}
 use Rattle.std.proofs.lemmas.List.Sums.{suffix_len_is}
 use Rattle.std.proofs.Math.Seq.{get_or-append_right, get_or-append_seam}
 use Rattle.std.proofs.Math.Dec.{leb}
@@ -176,11 +175,11 @@ back_of front back h = after_at (front ++ 45 ∷ back) (length front) (joined_la
 
 -- ---- the whole rule
 
-and_true : (a b : Bool) → a && b ≡ true → (a ≡ true) × (b ≡ true)
+pub and_true : (a b : Bool) → a && b ≡ true → (a ≡ true) × (b ≡ true)
 and_true true b h = (refl, h)
 and_true false b h = absurd (false≢true h)
 
-true_and : (a b : Bool) → a ≡ true → b ≡ true → a && b ≡ true
+pub true_and : (a b : Bool) → a ≡ true → b ≡ true → a && b ≡ true
 true_and true b p q = q
 true_and false b p q = absurd (false≢true p)
 

@@ -1,11 +1,11 @@
 -- A number's digits read back, and the number in a path of the trash.
-use Rattle.std.proofs.Common.{◌≡◌, ◌≢◌, ℕ, ◌+◌, ◌-◌, ◌*◌, ◌^◌, ◌≤◌, ◌<◌, ◌⊎◌, Bool, true, false, ◌&&◌, not, cond, eqb, ltb, List, [], ◌∷◌, ◌++◌, length, get_or, take, drop, suc, zero, Option, Some, None, refl, sym, ap, ◌∙◌, arith, inl, inr, subst, rules, length-append, lit<}
+use Rattle.std.proofs.Common.{◌≡◌, ℕ, ◌+◌, ◌-◌, ◌*◌, ◌^◌, ◌≤◌, ◌<◌, Bool, true, false, ◌&&◌, cond, eqb, ltb, List, [], ◌∷◌, ◌++◌, length, get_or, take, drop, suc, zero, Option, Some, None, refl, sym, ap, ◌∙◌, arith, subst, rules, length-append, lit<}
 use Rattle.std.specs.Prelude.{is_some, sum, unwrap_or, nat_eq, decimal, codes}
 use Rattle.std.specs.Char.{is_ascii_digit}
 use Rattle.std.specs.Str.{all_ascii_digits}
 use Rattle.std.specs.List.{position, position_or_len, starts_with}
-use Rattle.std.specs.Cmp.Lexicographic.{bytes_decides, pointwise}
-use Rattle.std.proofs.lemmas.Bool.{eq-eqb, eqb-true, false≢true, lt-ltb, ltb-false, ltb-true, true≢false}
+use Rattle.std.specs.Cmp.Lexicographic.{bytes_decides}
+use Rattle.std.proofs.lemmas.Bool.{eq-eqb, eqb-true, false≢true, lt-ltb, ltb-true, true≢false}
 use Rattle.std.proofs.lemmas.Str.Parse.{IsNumeralModel, numerals_by_fold, tells_all_ascii_digits}
 use Rattle.std.proofs.lemmas.Fmt.{decimal-digits_value, decimal_digit, digits_decimal, digits_value-decimal, first_decimal}
 use Rattle.std.proofs.lemmas.List.Sums.{passes_at_first, position_or_len_is, split_at_first}
@@ -13,7 +13,7 @@ use Rattle.std.proofs.lemmas.List.{take-append-drop}
 use Rattle.std.proofs.Math.ListN.{get_or-append}
 use Rattle.std.proofs.Math.Seq.{get_or-append_seam}
 use Rattle.conda_path.proofs.DistLemmas.{drop_front, take_front}
-use Rattle.conda_path.specs.Lanes.{IsTrash, behind_dot, number_from, number_of, second_number, trash_number, trash_path}
+use Rattle.conda_path.specs.Lanes.{IsTrash, behind_dot, number_from, number_of, second_number, trash_number}
 
 -- the value of digits that go on with n
 abbrev read_on : ℕ → List ℕ → ℕ

@@ -2,3 +2,4 @@ pub mod PathLemmas
 pub mod DistLemmas
 pub mod SlotLemmas
 pub mod LaneLemmas
+pub mod InsideLemmas

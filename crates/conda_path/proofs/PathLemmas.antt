@@ -1,11 +1,11 @@
 -- What `first_offence` answers is the least offence, and it answers nothing exactly where the rule holds.
-use Rattle.std.proofs.Common.{◌≡◌, ◌≢◌, ℕ, ◌+◌, ◌≤◌, ◌<◌, ◌⊎◌, Bool, true, false, ◌&&◌, ◌||◌, not, cond, eqb, List, [], ◌∷◌, length, drop, suc, zero, Option, Some, None, refl, sym, ap, ◌∙◌, arith, inl, inr, subst, IsTrue, ltb, rules}
-use Rattle.std.specs.Prelude.{slice_get, ◌==◌, nat_lt, if◌then◌else◌}
-use Rattle.std.specs.List.{AllByRecursion, before_first, onto_first, slice_split}
+use Rattle.std.proofs.Common.{◌≡◌, ℕ, ◌+◌, ◌≤◌, ◌<◌, ◌⊎◌, Bool, true, false, ◌&&◌, ◌||◌, not, cond, eqb, List, [], ◌∷◌, length, suc, zero, Option, Some, None, refl, sym, ap, ◌∙◌, arith, inl, inr, subst, ltb}
+use Rattle.std.specs.Prelude.{slice_get}
+use Rattle.std.specs.List.{AllByRecursion, before_first, slice_split}
 use Rattle.std.proofs.lemmas.Bool.{eq-eqb, eqb-true, false≢true, le-ltb, ltb-false, ltb-true, true≢false}
 use Rattle.std.proofs.lemmas.List.Sums.{take_while-cons}
 use Rattle.std.proofs.lemmas.List.Splits.{slice_split-cons_yes, slice_split-cons_no}
-use Rattle.conda_path.specs.Paths.{is_slash, is_control, is_control_or_space, IsPart, IsPathWithin, IsRelPath, IsPrefix, PartBegins, part_at, IsOffence, IsLeast, IsPathFault, IsPrefixFault, is_bad_part, first_offence, or_too_long, path_fault, prefix_fault}
+use Rattle.conda_path.specs.Paths.{is_slash, is_control, is_control_or_space, IsPart, IsRelPath, IsPrefix, part_at, IsOffence, IsLeast, IsPathFault, IsPrefixFault, is_bad_part, first_offence, or_too_long, path_fault, prefix_fault}
 
 some_same : (a b : ℕ) → Some a ≡ Some b → a ≡ b
 some_same a b h = cc

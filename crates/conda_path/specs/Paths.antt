@@ -1,6 +1,7 @@
 -- Paths in a prefix, and prefixes: what they are, and where a text that is none has its fault.
 -- This project's own rule.
-use Rattle.std.specs.Prelude.{◌≡◌, ◌≢◌, ℕ, ◌+◌, ◌≤◌, ◌<◌, ◌⊎◌, Bool, true, false, ◌&&◌, ◌||◌, ◌==◌, nat_lt, if◌then◌else◌, List, [], ◌∷◌, length, drop, codes, Option, Some, None, slice_get, IfSome}
+use Rattle.std.specs.Prelude.{◌≡◌, ◌≢◌, ℕ, ◌+◌, ◌≤◌, ◌<◌, ◌⊎◌, Bool, true, false, ◌&&◌, ◌||◌, ◌==◌, nat_lt, if◌then◌else◌, List, [], ◌∷◌, ◌++◌, length, take, drop, Option, Some, None, slice_get}
+use Rattle.std.specs.Str.{bytes_eq}
 use Rattle.std.specs.List.{AllByRecursion, before_first, slice_split}
 
 -- `/`
@@ -99,3 +100,18 @@ abbrev pub prefix_fault : List ℕ → Option ℕ
 prefix_fault [] = Some 0
 prefix_fault (b ∷ path) =
     if b == 47 then or_too_long 512 (b ∷ path) (first_offence is_control_or_space true 1 path) else Some 0
+
+-- ---- prefixes inside one another
+
+-- equal to the other, or below it
+abbrev pub IsInside : List ℕ → List ℕ → Type 0
+IsInside text other = (text ≡ other) ⊎ ((path : List ℕ) × (text ≡ other ++ 47 ∷ path))
+
+-- nothing, or a slash and what is below
+abbrev pub leads_below : List ℕ → Bool
+leads_below [] = true
+leads_below (b ∷ path) = b == 47
+
+-- the same as a function
+abbrev pub is_inside : List ℕ → List ℕ → Bool
+is_inside text other = bytes_eq (take (length other) text) other && leads_below (drop (length other) text)

@@ -1,6 +1,6 @@
-ghost use Rattle.std.specs.Prelude.{◌≡◌, IfOk, IfErr, OnOk, MatchResult, Some, None};
+ghost use Rattle.std.specs.Prelude.{◌≡◌, ◌↔◌, IfOk, IfErr, OnOk, MatchResult, Some, None, true};
 ghost use Rattle.conda_path.specs.Faults.{NamesFault, HasPlace};
-ghost use Rattle.conda_path.specs.Paths.{prefix_fault, IsPrefixFault, IsPrefix};
+ghost use Rattle.conda_path.specs.Paths.{prefix_fault, IsInside, IsPrefixFault, IsPrefix, is_inside, leads_below};
 
 use crate::error::PathErr;
 use crate::scan::{Bad, first_offence};
@@ -48,6 +48,26 @@ fn fault_of(text: &str) -> Option<usize>
     }
 }
 
+/// Whether nothing is left of a path, or a slash and what is below. It takes no memory.
+fn leads_below(rest: &[u8]) -> bool
+    ensures { result ≡ leads_below rest.now }
+{
+    match rest {
+        [] => true,
+        [b, ..] => *b == b'/',
+    }
+}
+
+/// Whether one text is another, or that one with a slash and more behind it. It takes no memory.
+fn text_inside(text: &[u8], other: &[u8]) -> bool
+    ensures { result ≡ is_inside text.now other.now }
+{
+    match text.strip_prefix(other) {
+        Some(rest) => leads_below(rest),
+        None => false,
+    }
+}
+
 impl Prefix {
     /// Reads a prefix.
     ///
@@ -76,6 +96,15 @@ impl Prefix {
         ensures no_fault { prefix_fault self.now ≡ None }
     {
         self.text.as_str()
+    }
+
+    #[tactic(auto, using(crate::proofs::InsideLemmas::inside_rule))]
+    /// Whether the prefix is the other one or lies below it. `/ab` isn't inside `/a`. It takes no memory.
+    pub fn inside(&self, other: &Prefix) -> bool
+        ensures rule { (result ≡ true) ↔ IsInside self.now other.now }
+        ensures exact { result ≡ is_inside self.now other.now }
+    {
+        text_inside(self.as_str().as_bytes(), other.as_str().as_bytes())
     }
 
     /// An equal prefix.

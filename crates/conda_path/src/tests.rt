@@ -72,6 +72,25 @@ fn paths_and_prefixes_by_their_rule(rt: HostRuntime) -> Result<(), Fail> {
 }
 
 #[test]
+fn prefixes_inside_one_another(rt: HostRuntime) -> Result<(), Fail> {
+    let alloc = rt.alloc();
+    for (text, other, inside) in [
+        ("/a", "/a", true),
+        ("/a/b", "/a", true),
+        ("/a/b/c", "/a/b", true),
+        ("/ab", "/a", false),
+        ("/a", "/a/b", false),
+        ("/a.b", "/a", false),
+        ("/b/a", "/a", false),
+    ] {
+        let text = Prefix::read(alloc, text)?;
+        let other = Prefix::read(alloc, other)?;
+        assert_eq!(rt; text.inside(&other), inside);
+    }
+    Ok(())
+}
+
+#[test]
 fn lengths_by_their_rule(rt: HostRuntime) -> Result<(), Fail> {
     let alloc = rt.alloc();
     assert_eq!(rt; path_place(alloc, longer(alloc, "", 1_024)?.as_str()), READ);

@@ -1,7 +1,7 @@
-use Rattle.std.proofs.Common.{arith, sym, ◌∙◌}
+use Rattle.std.proofs.Common.{arith, sym}
 use Rattle.std.proofs.lemmas.Grind.{common_steps}
 use Rattle.std.proofs.lemmas.Str.{IsCharBoundary-after_ascii}
-use Rattle.conda_path.proofs.DistLemmas.{LastDash, NoDash, after_at, after_none, before_at, before_none}
+use Rattle.conda_path.proofs.DistLemmas.{NoDash, after_at, after_none, before_at, before_none}
 use Rattle.conda_path.proofs.dist.cut.Goals as goal
 
 pub range_from-requires : goal.range_from-requires

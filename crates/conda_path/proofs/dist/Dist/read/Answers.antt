@@ -1,6 +1,3 @@
-use Rattle.std.proofs.Common.{arith}
-use Rattle.std.proofs.lemmas.Grind.{common_steps}
-use Rattle.conda_path.specs.Dists.{is_dist}
 use Rattle.conda_path.proofs.DistLemmas.{dist_rule, rule_dist}
 use Rattle.conda_path.proofs.dist.Dist.read.Goals as goal
 

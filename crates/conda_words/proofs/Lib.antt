@@ -1,0 +1,5 @@
+pub mod ValueLemmas
+pub mod PieceLemmas
+pub mod NestedLemmas
+pub mod ScriptLemmas
+pub mod FaultLemmas

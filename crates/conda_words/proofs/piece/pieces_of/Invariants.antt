@@ -1,0 +1,11 @@
+use Rattle.std.proofs.Common.{◌≡◌, ◌+◌, false, ◌++◌, length}
+use Rattle.conda_words.specs.Pieces.{pieces}
+use Rattle.conda_words.proofs.piece.pieces_of.Given as goal
+
+-- the pieces so far and those of the words that are left are those of all
+abbrev pub invariant-loop-word : goal.invariant-loop-word
+invariant-loop-word l =
+    (l.made.items ++ pieces l.plain l.at l.left ≡ pieces false 1 l.words) × (l.at + length l.left ≡ length l.words + 1)
+
+abbrev pub decreases-loop-word : goal.decreases-loop-word
+decreases-loop-word l = length l.left

@@ -1,0 +1,22 @@
+//! The words of a command line and the lines of a script: what they mean, and the first fault of those that mean
+//! nothing. This project's own rules.
+#![tactic(auto)]
+
+mod build;
+mod check;
+mod command;
+mod error;
+mod nested;
+mod piece;
+mod row;
+mod script;
+mod value;
+mod words;
+
+pub use command::{Command, Line, Verb, Virtual};
+pub use error::{Why, WordsErr};
+pub use script::read_script;
+pub use words::read_words;
+
+#[cfg(test)]
+mod tests;
