@@ -1,0 +1,5 @@
+use Rattle.conda_clause.proofs.PlaceLemmas.{kept_bare, place_inside, places_bare}
+use Rattle.conda_clause.proofs.laws.kept_laws.Goals as goal
+
+pub returns : goal.returns
+returns c = record { same = kept_bare; places = places_bare; inside = place_inside }

@@ -1,0 +1,26 @@
+use Rattle.std.proofs.Common.{◌≡◌, ap, sym, ◌∙◌, None, Some}
+use Rattle.conda_version.specs.Grammar.{offence}
+use Rattle.conda_version.specs.Text.{trimmed}
+use Rattle.conda_clause.proofs.TestLemmas.{chars_bare, chars_utf8, other_chars, version_is, version_is_none}
+use Rattle.conda_clause.proofs.test.version_of.Goals as goal
+
+pub returns-then-not-has_version_chars : goal.returns-then-not-has_version_chars
+returns-then-not-has_version_chars c = sym (other_chars c.args.text.now (sym c.if-not-has_version_chars.ensures))
+
+pub returns-in_default : goal.returns-in_default
+returns-in_default c = absurd (c.in_default.ensures.cases.0 (chars_utf8 c.args.text.now (sym c.if-not-has_version_chars.ensures)))
+
+pub returns-in-Ok-read : goal.returns-in-Ok-read
+returns-in-Ok-read c =
+    let text = c.args.text.now in
+    let bare : trimmed c.in-Ok.text.now ≡ text = ap trimmed c.in-Ok.ensures.cases.0 ∙ chars_bare text (sym c.if-not-has_version_chars.ensures) in
+    let good : offence text ≡ None = ap offence (sym bare) ∙ c.in-Ok-read.ensures.good in
+    ap Some (c.in-Ok-read.ensures.value ∙ bare) ∙ sym (version_is text good)
+
+pub returns-in-Err-BadVersion : goal.returns-in-Err-BadVersion
+returns-in-Err-BadVersion c =
+    let text = c.args.text.now in
+    let bare : trimmed c.in-Ok.text.now ≡ text = ap trimmed c.in-Ok.ensures.cases.0 ∙ chars_bare text (sym c.if-not-has_version_chars.ensures) in
+    let cause = rw c.in-Err-BadVersion.field-0-is at c.in-Err-BadVersion.ensures.bad in
+    let bad : offence text ≡ Some (c.in-Err-BadVersion.field-0-0, c.in-Err-BadVersion.field-0-1) = ap offence (sym bare) ∙ cause in
+    sym (version_is_none text (c.in-Err-BadVersion.field-0-0, c.in-Err-BadVersion.field-0-1) bad)

@@ -1,0 +1,29 @@
+ghost use Rattle.std.specs.Prelude.{◌≡◌, ◌<◌, ◌≤◌, ◌==◌, ◌∷◌, List, None, false, length, not, true, ℕ};
+ghost use Rattle.std.specs.List.{list_all};
+ghost use Rattle.conda_clause.specs.Clause.{clause_fault, is_clause_char};
+ghost use Rattle.conda_clause.specs.Faults.{place_of};
+ghost use Rattle.conda_clause.specs.Grammar.{IsClause};
+ghost use Rattle.conda_clause.specs.Kept.{kept};
+ghost use Rattle.conda_clause.specs.Tests.{ends_with};
+
+/// What holds of the text of every clause: it isn't empty, and each of its characters is one that a clause may hold.
+pub fn clause_laws()
+    ensures some { (text : List ℕ) → clause_fault text ≡ None → 0 < length text }
+    ensures chars { (text : List ℕ) → clause_fault text ≡ None → list_all is_clause_char text ≡ true }
+    // It begins with no joint, and ends with none of `,`, `|`, `<`, `>` and `=`.
+    ensures front { (text : List ℕ) → clause_fault text ≡ None → (bs : List ℕ) → (text ≡ 44 ∷ bs → ⊥) × (text ≡ 124 ∷ bs → ⊥) }
+    ensures back { (text : List ℕ) → clause_fault text ≡ None → (ends_with 44 text ≡ false) × (ends_with 124 text ≡ false) × (ends_with 60 text ≡ false) × (ends_with 62 text ≡ false) × (ends_with 61 text ≡ false) }
+{}
+
+/// A text without spaces is kept as it is, and each of its characters stays where it stood. No place lies behind the end of a text.
+pub fn kept_laws()
+    ensures same { (text : List ℕ) → list_all (λ b. not (b == 32)) text ≡ true → kept text ≡ text }
+    ensures places { (text : List ℕ) → list_all (λ b. not (b == 32)) text ≡ true → (i : ℕ) → i ≤ length text → place_of text i ≡ i }
+    ensures inside { (text : List ℕ) (i : ℕ) → place_of text i ≤ length text }
+{}
+
+/// The texts without a fault are those of the grammar, and no others.
+pub fn grammar_laws()
+    ensures only { (text : List ℕ) → clause_fault text ≡ None → IsClause text }
+    ensures all { (text : List ℕ) → IsClause text → clause_fault text ≡ None }
+{}

@@ -1,0 +1,103 @@
+ghost use Rattle.std.specs.Prelude.{◌≡◌, ◌≤◌, ◌<◌, ◌+◌, IfOk, length, ◌^◌};
+ghost use Rattle.conda_clause.specs.Pieces.{begins_test, is_mark, piece_len, token_of};
+ghost use Rattle.conda_clause.specs.Truth.{deeper, is_joint};
+
+use crate::test::{Test, read_test};
+use conda_base::Copied;
+use std::alloc::{AllocError, Global};
+
+/// A token of a version clause.
+#[derive(Debug, Drop)]
+pub enum Token {
+    Open,
+    Close,
+    /// `,`
+    And,
+    /// `|`
+    Or,
+    Test(Test),
+}
+
+/// What joins the parts of a clause.
+#[derive(Clone, Copy, Debug)]
+pub enum Joint {
+    Comma,
+    Bar,
+}
+
+impl Token {
+    pub fn is_joint(&self, joint: Joint) -> bool
+        ensures { result ≡ is_joint joint self.now }
+    {
+        match joint {
+            Joint::Comma => matches!(self, Token::And),
+            Joint::Bar => matches!(self, Token::Or),
+        }
+    }
+
+    /// How many parentheses are open behind the token, where so many are open before it.
+    pub fn deeper(&self, depth: usize) -> usize
+        requires { depth + 1 < 2 ^ 64 }
+        ensures depth { result ≡ deeper depth self.now }
+        ensures bound { result ≤ depth + 1 }
+    {
+        match self {
+            Token::Open => depth + 1,
+            Token::Close => depth.saturating_sub(1),
+            Token::And | Token::Or | Token::Test(_) => depth,
+        }
+    }
+}
+
+impl Copied for Token {
+    fn copied(&self, alloc: Global) -> Result<Token, AllocError> {
+        Ok(match self {
+            Token::Open => Token::Open,
+            Token::Close => Token::Close,
+            Token::And => Token::And,
+            Token::Or => Token::Or,
+            Token::Test(test) => Token::Test(test.copied(alloc)?),
+        })
+    }
+}
+
+fn is_mark(b: u8) -> bool
+    ensures { result ≡ is_mark b }
+{
+    matches!(b, b',' | b'|' | b'(' | b')')
+}
+
+/// How long the first piece of a text is.
+pub fn piece_len(text: &[u8]) -> usize
+    requires { 0 < length text.now }
+    ensures len { result ≡ piece_len text.now }
+    ensures some { 0 < result }
+    ensures inside { result ≤ length text.now }
+{
+    if is_mark(text[0]) {
+        return 1;
+    }
+    for (at, b) in text.iter().enumerate() {
+        if is_mark(*b) {
+            return at;
+        }
+    }
+    text.len()
+}
+
+/// The token that a piece means, if it means one.
+pub fn read_piece(alloc: Global, piece: &[u8]) -> Result<Option<Token>, AllocError>
+    ensures { IfOk result (λ t. t ≡ token_of piece.now) }
+{
+    match piece {
+        [] => Ok(None),
+        [b'(', ..] => Ok(Some(Token::Open)),
+        [b')', ..] => Ok(Some(Token::Close)),
+        [b',', ..] => Ok(Some(Token::And)),
+        [b'|', ..] => Ok(Some(Token::Or)),
+        _ => match read_test(alloc, piece)? {
+            Some(test) => Ok(Some(Token::Test(test))),
+            None => Ok(None),
+        },
+    }
+}

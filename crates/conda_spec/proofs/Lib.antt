@@ -1,0 +1,13 @@
+pub mod CutLemmas
+pub mod ValueLemmas
+pub mod PieceLemmas
+pub mod KeptLemmas
+pub mod TrimLemmas
+pub mod SeamLemmas
+pub mod FrontLemmas
+pub mod BracketLemmas
+pub mod NameLemmas
+pub mod ItemLemmas
+pub mod ClauseWords
+pub mod EqualLemmas
+pub mod LawLemmas

@@ -1,0 +1,37 @@
+-- Channels, builds and version clauses.
+use Rattle.std.proofs.Common.{◌≡◌, ◌∙◌, ◌||◌, ◌<◌, ℕ, Bool, true, false, not, length, map, List, [], ◌∷◌, refl, sym, ap, arith, true≢false, None}
+use Rattle.std.specs.Char.{to_ascii_lowercase}
+use Rattle.std.specs.List.{AllByRecursion, list_any}
+use Rattle.std.proofs.lemmas.Bool.Decides.{nat_tests}
+use Rattle.conda_clause.specs.Clause.{clause_fault}
+use Rattle.conda_spec.specs.Good.{IsClause}
+use Rattle.conda_spec.specs.Parts.{IsFreeOf}
+
+none_of : (a b : Bool) → a || b ≡ false → (a ≡ false) × (b ≡ false)
+none_of true b h = absurd (true≢false h)
+none_of false b h = (refl, h)
+
+all_free : (bars : ℕ → Bool) (text : List ℕ) → list_any bars text ≡ false → AllByRecursion (λ b. bars b ≡ false) text
+all_free bars [] h = tt
+all_free bars (b ∷ rest) h = let both = none_of (bars b) (list_any bars rest) h in (both.0, all_free bars rest both.1)
+
+-- what passes the test holds no barred character, and something
+pub free_is : (bars : ℕ → Bool) (text : List ℕ) → 0 < length text → list_any bars text ≡ false → IsFreeOf bars text
+free_is bars [] h none = absurd (omega (arith, h))
+free_is bars (b ∷ rest) h none = (λ e. cc, all_free bars (b ∷ rest) none)
+
+pub not_true : (b : Bool) → not b ≡ true → b ≡ false
+not_true true h = sym h
+not_true false h = refl
+
+lower_twice : (b : ℕ) → to_ascii_lowercase (to_ascii_lowercase b) ≡ to_ascii_lowercase b
+lower_twice b = grind (arith, nat_tests)
+
+-- what is lowered is in lower case
+pub lowered : (text : List ℕ) → map to_ascii_lowercase (map to_ascii_lowercase text) ≡ map to_ascii_lowercase text
+lowered [] = refl
+lowered (b ∷ text) = ap (λ c. c ∷ map to_ascii_lowercase (map to_ascii_lowercase text)) (lower_twice b) ∙ ap (λ rest. to_ascii_lowercase b ∷ rest) (lowered text)
+
+-- a clause that was read
+pub clause_is : (clause text : List ℕ) → clause ≡ map to_ascii_lowercase text → clause_fault (map to_ascii_lowercase text) ≡ None → IsClause clause
+clause_is clause text same good = rw same (good, lowered text)

@@ -1,0 +1,55 @@
+-- What a match specification gives: conda's match_spec.py, in this project's profile.
+use Rattle.std.specs.Prelude.{◌≡◌, ◌≢◌, ◌<◌, ◌||◌, ◌==◌, ℕ, Bool, true, false, List, [], codes, map, Option, None, IfSome, IsSome, refl}
+use Rattle.std.specs.Char.{is_ascii_digit, is_ascii_lowercase, to_ascii_lowercase}
+use Rattle.std.specs.Coded.{Coded, code_by, coded×, coded_ℕ, coded_list, coded_option}
+use Rattle.std.specs.List.{AllByRecursion, list_any}
+use Rattle.conda_clause.specs.Clause.{beside_build, clause_fault}
+
+-- The parts of a specification. What isn't given may be anything.
+pub record Parts : Type 0 where
+  pub channel : Option (List ℕ)
+  pub subdir : Option (List ℕ)
+  pub name : List ℕ
+  pub version : Option (List ℕ)
+  pub build : Option (List ℕ)
+  pub number : Option ℕ
+
+-- one of these characters
+abbrev pub is_one_of : List ℕ → ℕ → Bool
+is_one_of signs b = list_any (λ sign. sign == b) signs
+
+-- a character of a name in lower case, or a star
+abbrev pub is_name_char : ℕ → Bool
+is_name_char b = is_ascii_digit b || is_ascii_lowercase b || is_one_of (codes "_-.*") b
+
+-- a character that no channel and no subdir holds
+abbrev pub bars_channel : ℕ → Bool
+bars_channel b = is_one_of (codes " '\",[]:/") b
+
+-- a character that no build holds
+abbrev pub bars_build : ℕ → Bool
+bars_build b = is_one_of (codes " '\",|:[]") b
+
+-- not empty, and of none of these characters
+abbrev pub IsFreeOf : (ℕ → Bool) → List ℕ → Type 0
+IsFreeOf bars text = (text ≢ []) × AllByRecursion (λ b. bars b ≡ false) text
+
+-- Parts that a text can give. A version is in lower case. Where a build is given, a version is given too, and in the form that it has beside a build.
+pub record IsSpec (parts : Parts) : Type 0 where
+  pub channel : IfSome parts.channel (IsFreeOf bars_channel)
+  pub subdir : IfSome parts.subdir (IsFreeOf bars_channel)
+  pub name : (parts.name ≢ []) × AllByRecursion (λ b. is_name_char b ≡ true) parts.name
+  pub version : IfSome parts.version (λ clause. (clause_fault clause ≡ None) × (map to_ascii_lowercase clause ≡ clause))
+  pub build : IfSome parts.build (IsFreeOf bars_build)
+  pub together : IsSome parts.build → IfSome parts.version (λ clause. beside_build clause ≡ clause) × IsSome parts.version
+  pub number : IfSome parts.number (λ n. n < 18446744073709551616)
+
+-- parts as pairs
+abbrev pub coded_parts : Coded Parts
+coded_parts =
+    let text = coded_option (coded_list coded_ℕ) in
+    code_by (Option (List ℕ) × (Option (List ℕ) × (List ℕ × (Option (List ℕ) × (Option (List ℕ) × Option ℕ)))))
+    (coded× text (coded× text (coded× (coded_list coded_ℕ) (coded× text (coded× text (coded_option coded_ℕ))))))
+    (λ p. (p.channel, (p.subdir, (p.name, (p.version, (p.build, p.number))))))
+    (λ p. record { channel = p.0; subdir = p.1.0; name = p.1.1.0; version = p.1.1.1.0; build = p.1.1.1.1.0; number = p.1.1.1.1.1 })
+    (λ _. refl)

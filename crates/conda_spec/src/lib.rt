@@ -1,0 +1,25 @@
+//! Match specifications, after conda's `match_spec.py`: which packages a text names.
+#![tactic(auto)]
+
+mod cuts;
+mod follow;
+mod given;
+mod head;
+mod items;
+mod laws;
+mod matches;
+mod places;
+mod read;
+mod spec;
+mod stay;
+mod text;
+mod values;
+
+pub use conda_clause::{SpecErr, SpecWhy, VersionClause, glob};
+pub use laws::normal_form_law;
+pub use spec::Spec;
+
+#[cfg(test)]
+mod form_tests;
+#[cfg(test)]
+mod tests;

@@ -1,0 +1,143 @@
+ghost use Rattle.std.specs.Prelude.{◌≡◌, IfErr, IfOk, Ok, OnOk, string_bytes};
+ghost use Rattle.conda_version.specs.Text.{trimmed};
+ghost use Rattle.conda_clause.specs.declared.error.SpecErr.TheVariants.{Memory};
+ghost use Rattle.conda_spec.specs.Parts.{IsSpec};
+ghost use Rattle.conda_spec.specs.Reading.{spec_read};
+ghost use Rattle.conda_spec.specs.Text.{brackets_text, channel_text, spec_text, word_text};
+
+use crate::spec::Spec;
+use conda_base::{Copied, Text};
+use conda_clause::{SpecErr, VersionClause};
+use std::alloc::{AllocError, Global};
+
+impl Spec {
+    /// The normal form: `[channel::]name[ version[ build]]`, and behind it in brackets the build number and the subdir
+    /// where these are given. [`Spec::read`] makes the same specification of it.
+    pub fn text(&self, alloc: Global) -> Result<String, SpecErr>
+        ensures text { IfOk result (λ t. string_bytes t ≡ spec_text self.now) }
+        ensures again { IfOk result (λ t. spec_read (trimmed (string_bytes t)) ≡ Ok self.now) }
+        ensures bad { IfErr result (λ e. e ≡ Memory) }
+    {
+        let text = self.normal_form(alloc)?;
+        Ok(text)
+    }
+
+    fn normal_form(&self, alloc: Global) -> Result<String, AllocError>
+        ensures text { IfOk result (λ t. string_bytes t ≡ spec_text self.now) }
+        ensures good { OnOk result (IsSpec self.now) }
+    {
+        let channel = channel_text(alloc, &self.channel)?;
+        let version = version_text(alloc, &self.version)?;
+        let build = word_text(alloc, &self.build)?;
+        let brackets = brackets_text(alloc, self.number, &self.subdir)?;
+        let channel = channel.as_str();
+        let name = self.name.as_str();
+        let version = version.as_str();
+        let build = build.as_str();
+        let brackets = brackets.as_str();
+        format!(in alloc; "{channel}{name}{version}{build}{brackets}")
+    }
+
+    /// An equal specification.
+    pub fn copy(&self, alloc: Global) -> Result<Spec, AllocError>
+        ensures { IfOk result (λ s. s ≡ self.now) }
+    {
+        let channel = copied_text(alloc, &self.channel)?;
+        let subdir = copied_text(alloc, &self.subdir)?;
+        let name = self.name.copy(alloc)?;
+        let version = copied_version(alloc, &self.version)?;
+        let build = copied_text(alloc, &self.build)?;
+        Ok(Spec {
+            channel,
+            subdir,
+            name,
+            version,
+            build,
+            number: self.number,
+        })
+    }
+}
+
+impl Copied for Spec {
+    fn copied(&self, alloc: Global) -> Result<Spec, AllocError> {
+        self.copy(alloc)
+    }
+}
+
+fn copied_text(alloc: Global, part: &Option<Text>) -> Result<Option<Text>, AllocError>
+    ensures { IfOk result (λ p. p ≡ part.now) }
+{
+    match part {
+        Some(text) => Ok(Some(text.copy(alloc)?)),
+        None => Ok(None),
+    }
+}
+
+fn copied_version(
+    alloc: Global,
+    part: &Option<VersionClause>,
+) -> Result<Option<VersionClause>, AllocError>
+    ensures { IfOk result (λ p. p ≡ part.now) }
+{
+    match part {
+        Some(clause) => Ok(Some(clause.copy(alloc)?)),
+        None => Ok(None),
+    }
+}
+
+fn channel_text(alloc: Global, part: &Option<Text>) -> Result<String, AllocError>
+    ensures { IfOk result (λ t. string_bytes t ≡ channel_text part.now) }
+{
+    match part {
+        Some(text) => {
+            let channel = text.as_str();
+            format!(in alloc; "{channel}::")
+        }
+        None => Ok(String::new(alloc)),
+    }
+}
+
+fn word_text(alloc: Global, part: &Option<Text>) -> Result<String, AllocError>
+    ensures { IfOk result (λ t. string_bytes t ≡ word_text part.now) }
+{
+    match part {
+        Some(text) => {
+            let word = text.as_str();
+            format!(in alloc; " {word}")
+        }
+        None => Ok(String::new(alloc)),
+    }
+}
+
+fn version_text(alloc: Global, part: &Option<VersionClause>) -> Result<String, AllocError>
+    ensures { IfOk result (λ t. string_bytes t ≡ word_text part.now) }
+{
+    match part {
+        Some(clause) => {
+            let word = clause.text();
+            format!(in alloc; " {word}")
+        }
+        None => Ok(String::new(alloc)),
+    }
+}
+
+fn brackets_text(
+    alloc: Global,
+    number: Option<u64>,
+    subdir: &Option<Text>,
+) -> Result<String, AllocError>
+    ensures { IfOk result (λ t. string_bytes t ≡ brackets_text number subdir.now) }
+{
+    match (number, subdir) {
+        (None, None) => Ok(String::new(alloc)),
+        (Some(number), None) => format!(in alloc; "[build_number={number}]"),
+        (None, Some(subdir)) => {
+            let subdir = subdir.as_str();
+            format!(in alloc; "[subdir={subdir}]")
+        }
+        (Some(number), Some(subdir)) => {
+            let subdir = subdir.as_str();
+            format!(in alloc; "[build_number={number},subdir={subdir}]")
+        }
+    }
+}

@@ -1,0 +1,132 @@
+ghost use Rattle.std.specs.Prelude.{◌≡◌, ◌==◌, ◌++◌, ◌<◌, IfOk, codes, nat_lt, string_bytes, true};
+ghost use Rattle.std.specs.List.{list_any};
+ghost use Rattle.conda_spec.specs.Faults.{Gives};
+ghost use Rattle.conda_spec.specs.Good.{IsClause, stood};
+ghost use Rattle.conda_spec.specs.Parts.{IsFreeOf, bars_build, bars_channel, is_one_of};
+ghost use Rattle.conda_spec.specs.Reading.{build_at, channel_at, clause_at, ends_with_star, equal_at, is_free};
+
+use crate::cuts::without_last;
+use crate::places::Places;
+use conda_base::Text;
+use conda_clause::{SpecErr, SpecWhy, VersionClause};
+use std::alloc::Global;
+
+/// Whether a byte is one of these.
+pub fn is_one_of(signs: &[u8], b: u8) -> bool
+    ensures { result ≡ is_one_of signs.now b }
+{
+    signs.iter().any(|sign| *sign == b)
+}
+
+pub fn fault(at: usize, why: SpecWhy) -> SpecErr
+    ensures { result ≡ SpecErr.BadSpec at why }
+{
+    SpecErr::BadSpec { at, why }
+}
+
+fn bars_channel(b: u8) -> bool
+    ensures { result ≡ bars_channel b }
+{
+    is_one_of(b" '\",[]:/", b)
+}
+
+fn bars_build(b: u8) -> bool
+    ensures { result ≡ bars_build b }
+{
+    is_one_of(b" '\",|:[]", b)
+}
+
+fn holds_barred_by_channel(text: &[u8]) -> bool
+    ensures { result ≡ list_any bars_channel text.now }
+{
+    text.iter().any(|b| bars_channel(*b))
+}
+
+fn is_channel(text: &[u8]) -> bool
+    ensures value { result ≡ is_free bars_channel text.now }
+    ensures good { result ≡ true → IsFreeOf bars_channel text.now }
+{
+    0 < text.len() && !holds_barred_by_channel(text)
+}
+
+fn holds_barred_by_build(text: &[u8]) -> bool
+    ensures { result ≡ list_any bars_build text.now }
+{
+    text.iter().any(|b| bars_build(*b))
+}
+
+fn is_build(text: &[u8]) -> bool
+    ensures value { result ≡ is_free bars_build text.now }
+    ensures good { result ≡ true → IsFreeOf bars_build text.now }
+{
+    0 < text.len() && !holds_barred_by_build(text)
+}
+
+/// A channel or a subdir.
+#[tactic(auto, unfolding(crate::specs::Reading::channel_at))]
+pub fn channel_at(alloc: Global, at: usize, text: &str) -> Result<Text, SpecErr>
+    ensures read { Gives result (channel_at at text.now) }
+    ensures good { IfOk result (IsFreeOf bars_channel) }
+{
+    if !is_channel(text.as_bytes()) {
+        return Err(fault(at, SpecWhy::Channel));
+    }
+    Ok(Text::from_str(alloc, text)?)
+}
+
+#[tactic(auto, unfolding(crate::specs::Reading::build_at))]
+pub fn build_at(alloc: Global, at: usize, text: &str) -> Result<Text, SpecErr>
+    ensures read { Gives result (build_at at text.now) }
+    ensures good { IfOk result (IsFreeOf bars_build) }
+{
+    if !is_build(text.as_bytes()) {
+        return Err(fault(at, SpecWhy::Build));
+    }
+    Ok(Text::from_str(alloc, text)?)
+}
+
+/// A version clause that begins at a place of the characters that stay, behind some that are added.
+#[tactic(auto, unfolding(crate::specs::Reading::clause_at))]
+pub fn clause_at(
+    alloc: Global,
+    places: &Places,
+    start: usize,
+    added: usize,
+    text: &str,
+) -> Result<VersionClause, SpecErr>
+    ensures read { Gives result (clause_at (stood places.now) start added text.now) }
+    ensures good { IfOk result IsClause }
+{
+    match VersionClause::of_kept(alloc, text) {
+        Ok(clause) => Ok(clause),
+        Err(SpecErr::BadSpec { at, why }) => Err(fault(
+            places.behind(start, at.saturating_sub(added)),
+            why,
+        )),
+        Err(SpecErr::Memory) => Err(SpecErr::Memory),
+    }
+}
+
+fn ends_with_star(text: &str) -> bool
+    ensures { result ≡ ends_with_star text.now }
+{
+    without_last(text, '*').is_some()
+}
+
+/// "Equal to V": V itself where it ends with a star, else `==V`.
+#[tactic(auto, unfolding(crate::specs::Reading::equal_at))]
+pub fn equal_at(
+    alloc: Global,
+    places: &Places,
+    start: usize,
+    version: &str,
+) -> Result<VersionClause, SpecErr>
+    ensures read { Gives result (equal_at (stood places.now) start version.now) }
+    ensures good { IfOk result IsClause }
+{
+    if ends_with_star(version) {
+        return clause_at(alloc, places, start, 0, version);
+    }
+    let text = format!(in alloc; "=={version}")?;
+    clause_at(alloc, places, start, 2, text.as_str())
+}
