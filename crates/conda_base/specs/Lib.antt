@@ -1,0 +1,4 @@
+pub mod Signs
+pub mod Texts
+pub mod Numbers
+pub mod Reads

@@ -56,18 +56,22 @@ impl Bytes {
         let Bytes { items } = self;
         items
     }
+}
 
-    /// Equal bytes.
-    pub fn copy(&self, alloc: Global) -> Result<Bytes, AllocError>
-        ensures { IfOk result (λ b. b ≡ self.now) }
-    {
-        Bytes::from_slice(alloc, self.items.as_slice())
+impl Clone for Bytes {
+    ghost use Rattle.std.specs.Prelude.{◌≡◌};
+
+    ghost is_clone = { λ bytes made. made ≡ bytes };
+
+    fn clone(&self) -> Result<Bytes, AllocError> {
+        let items = self.items.clone()?;
+        Ok(Bytes { items })
     }
 }
 
 impl Copied for Bytes {
-    fn copied(&self, alloc: Global) -> Result<Bytes, AllocError> {
-        self.copy(alloc)
+    fn copy(&self) -> Result<Bytes, AllocError> {
+        self.clone()
     }
 }
 

@@ -10,6 +10,3 @@ pub use bytes::Bytes;
 pub use copied::{Copied, copied_all};
 pub use rows::Rows;
 pub use text::Text;
-
-#[cfg(test)]
-mod tests;

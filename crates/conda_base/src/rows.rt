@@ -70,18 +70,37 @@ impl<T: Drop> Rows<T> {
     }
 }
 
-impl<T: Copied + Drop> Rows<T> {
-    /// An equal list.
-    pub fn copy(&self, alloc: Global) -> Result<Rows<T>, AllocError>
-        ensures { IfOk result (λ r. r ≡ self.now) }
-    {
-        let items = copied_all(alloc, self.items.as_slice())?;
+impl<T: Copied> Clone for Rows<T> {
+    ghost use Rattle.std.specs.Prelude.{◌≡◌};
+
+    ghost is_clone = { λ rows made. made ≡ rows };
+
+    fn clone(&self) -> Result<Rows<T>, AllocError> {
+        let items = copied_all(*self.items.allocator(), self.items.as_slice())?;
         Ok(Rows { items })
     }
 }
 
-impl<T: Copied + Drop> Copied for Rows<T> {
-    fn copied(&self, alloc: Global) -> Result<Rows<T>, AllocError> {
-        self.copy(alloc)
+impl<T: Copied> Copied for Rows<T> {
+    fn copy(&self) -> Result<Rows<T>, AllocError> {
+        self.clone()
     }
+}
+
+impl<T: PartialEq> PartialEq for Rows<T> {
+    ghost use Rattle.std.specs.Cmp.Lexicographic.{lists_per, pointwise};
+
+    ghost eq = { pointwise T.eq };
+
+    ghost laws = { lists_per T.laws };
+
+    fn eq(&self, other: &Rows<T>) -> bool {
+        self.items.as_slice() == other.items.as_slice()
+    }
+}
+
+impl<T: Eq> Eq for Rows<T> {
+    ghost use Rattle.std.specs.Cmp.Lexicographic.{lists_equiv};
+
+    ghost laws = { lists_equiv T.Eq.laws };
 }

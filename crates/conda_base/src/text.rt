@@ -58,18 +58,22 @@ impl Text {
         let Text { text } = self;
         text
     }
+}
 
-    /// An equal text.
-    pub fn copy(&self, alloc: Global) -> Result<Text, AllocError>
-        ensures { IfOk result (λ t. t ≡ self.now) }
-    {
-        Text::from_str(alloc, self.text.as_str())
+impl Clone for Text {
+    ghost use Rattle.std.specs.Prelude.{◌≡◌};
+
+    ghost is_clone = { λ text made. made ≡ text };
+
+    fn clone(&self) -> Result<Text, AllocError> {
+        let text = self.text.clone()?;
+        Ok(Text { text })
     }
 }
 
 impl Copied for Text {
-    fn copied(&self, alloc: Global) -> Result<Text, AllocError> {
-        self.copy(alloc)
+    fn copy(&self) -> Result<Text, AllocError> {
+        self.clone()
     }
 }
 
