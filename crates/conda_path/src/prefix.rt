@@ -1,5 +1,6 @@
-ghost use Rattle.std.specs.Prelude.{◌≡◌, ◌↔◌, IfOk, IfErr, OnOk, MatchResult, Some, None, true};
-ghost use Rattle.conda_path.specs.Faults.{NamesFault, HasPlace};
+ghost use Rattle.std.specs.Prelude.{◌≡◌, ◌↔◌, IfErr, IfOk, IfSome, OnOk, None, true};
+ghost use Rattle.conda_base.specs.Reads.{Gives};
+ghost use Rattle.conda_path.specs.Faults.{path_err_fault, prefix_read};
 ghost use Rattle.conda_path.specs.Paths.{prefix_fault, IsInside, IsPrefixFault, IsPrefix, is_inside, leads_below};
 
 use crate::error::PathErr;
@@ -75,10 +76,10 @@ impl Prefix {
     /// begins or a bad byte stands, else 512, the limit that the text is longer than.
     pub fn read(alloc: Global, text: &str) -> Result<Prefix, PathErr>
         ensures same { IfOk result (λ prefix. prefix ≡ text.now) }
+        ensures read { Gives path_err_fault result (prefix_read text.now) }
         ensures ok { OnOk result (IsPrefix text.now) }
-        ensures bad { IfErr result (λ e. HasPlace e (IsPrefixFault text.now)) }
+        ensures bad { IfErr result (λ e. IfSome (path_err_fault e) (IsPrefixFault text.now)) }
         ensures only { IsPrefix text.now → IfErr result (λ e. e ≡ PathErr.Memory) }
-        ensures exact { MatchResult result (λ _. prefix_fault text.now ≡ None) (λ e. NamesFault e (prefix_fault text.now)) }
     {
         if let Some(at) = fault_of(text) {
             return Err(PathErr::BadPath { at });

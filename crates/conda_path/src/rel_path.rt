@@ -1,5 +1,6 @@
-ghost use Rattle.std.specs.Prelude.{◌≡◌, IfOk, IfErr, OnOk, MatchResult, Some, None};
-ghost use Rattle.conda_path.specs.Faults.{NamesFault, HasPlace};
+ghost use Rattle.std.specs.Prelude.{◌≡◌, IfErr, IfOk, IfSome, OnOk, None};
+ghost use Rattle.conda_base.specs.Reads.{Gives};
+ghost use Rattle.conda_path.specs.Faults.{path_err_fault, path_read};
 ghost use Rattle.conda_path.specs.Paths.{path_fault, IsPathFault, IsRelPath};
 
 use crate::error::PathErr;
@@ -52,10 +53,10 @@ impl RelPath {
     /// text is longer than.
     pub fn read(alloc: Global, text: &str) -> Result<RelPath, PathErr>
         ensures same { IfOk result (λ path. path ≡ text.now) }
+        ensures read { Gives path_err_fault result (path_read text.now) }
         ensures ok { OnOk result (IsRelPath text.now) }
-        ensures bad { IfErr result (λ e. HasPlace e (IsPathFault text.now)) }
+        ensures bad { IfErr result (λ e. IfSome (path_err_fault e) (IsPathFault text.now)) }
         ensures only { IsRelPath text.now → IfErr result (λ e. e ≡ PathErr.Memory) }
-        ensures exact { MatchResult result (λ _. path_fault text.now ≡ None) (λ e. NamesFault e (path_fault text.now)) }
     {
         if let Some(at) = fault_of(text) {
             return Err(PathErr::BadPath { at });
