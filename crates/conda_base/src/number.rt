@@ -1,4 +1,5 @@
-ghost use Rattle.std.specs.Prelude.{◌≡◌, ◌≢◌, ◌↔◌, ◌≤◌, ◌<◌, ◌^◌, ℕ, List, Some, IfNone, IfSome, decimal, true};
+ghost use Rattle.std.specs.Prelude.{◌≡◌, ◌≢◌, ◌↔◌, ◌≤◌, ◌<◌, ◌^◌, ℕ, List, true};
+ghost use Rattle.std.specs.Prelude.{IfNone, IfSome, Some, decimal};
 ghost use Rattle.std.specs.Str.Parse.{digits_value};
 ghost use Rattle.conda_base.specs.Numbers as numbers;
 ghost use Rattle.conda_base.specs.Numbers.{digits_below, is_digits, number_below};
@@ -65,8 +66,12 @@ pub fn read_number(text: &[u8], limit: u64) -> Option<u64>
     read_digits(text, limit)
 }
 
-/// What the two readers of numbers mean, in std's words for a number's decimal form and for the value of digits.
+/// What the readers of numbers mean, in std's words for a number's decimal form and the value of
+/// digits.
 pub fn number_laws()
-    ensures number { (limit : ℕ) (text : List ℕ) (n : ℕ) → limit ≤ 2 ^ 64 → (number_below limit text ≡ Some n) ↔ ((text ≡ decimal n) × (n < limit)) }
-    ensures digits { (limit : ℕ) (text : List ℕ) (n : ℕ) → (digits_below limit text ≡ Some n) ↔ ((is_digits text ≡ true) × (digits_value 10 text ≡ n) × (n < limit)) }
+    ensures number { (limit : ℕ) (text : List ℕ) (n : ℕ) → limit ≤ 2 ^ 64 →
+        (number_below limit text ≡ Some n) ↔ ((text ≡ decimal n) × (n < limit)) }
+    ensures digits { (limit : ℕ) (text : List ℕ) (n : ℕ) →
+        (digits_below limit text ≡ Some n)
+        ↔ ((is_digits text ≡ true) × (digits_value 10 text ≡ n) × (n < limit)) }
 {}

@@ -3,7 +3,8 @@ ghost use Rattle.std.specs.List.{after_last, before_last, list_any};
 ghost use Rattle.conda_base.specs.Signs.{dash};
 ghost use Rattle.conda_base.specs.Texts.{is_byte};
 ghost use Rattle.conda_path.specs.Dists as dists;
-ghost use Rattle.conda_path.specs.Dists.{dist_build, dist_name, dist_text, dist_version, IsDist, IsSplit};
+ghost use Rattle.conda_path.specs.Dists.{dist_build, dist_name, dist_text, dist_version};
+ghost use Rattle.conda_path.specs.Dists.{IsDist, IsSplit};
 
 use crate::error::DistErr;
 use crate::scan::{self, Bad};
@@ -14,11 +15,12 @@ use std::marker::Model;
 /// The most bytes of a dist.
 const DIST_LIMIT: usize = 255;
 
-/// A package's name, version and build in one text, `name-version-build`, split at the last two `-`.
+/// A package's name, version and build in one text, `name-version-build`, split at the last two
+/// `-`.
 ///
-/// None of the three is empty. No byte is `/`, `:`, below 33 or 127. The text begins with none of `+`, `-`, `#`
-/// and `=`, ends with neither `.tar.bz2` nor `.conda`, and has at most 255 bytes. The split is that of conda's
-/// `dist.py`; the rest is this project's own rule.
+/// None of the three is empty. No byte is `/`, `:`, below 33 or 127. The text begins with none of
+/// `+`, `-`, `#` and `=`, ends with neither `.tar.bz2` nor `.conda`, and has at most 255 bytes.
+/// The split is that of conda's `dist.py`; the rest is this project's own rule.
 ///
 /// Contracts see it as the list of its bytes, by which dists are compared and hashed.
 #[derive(Clone, Debug, PartialEq, Eq, PartialOrd, Ord, Hash, Drop)]
@@ -112,11 +114,14 @@ fn is_dist(text: &str) -> bool
     has_parts(text)
 }
 
-/// The test of a dist is its rule: a name, a version and a build in one text, which are found in it again.
+/// The test of a dist is its rule: a name, a version and a build in one text, which are found
+/// again.
 pub fn dist_laws()
     ensures rule { (text : List ℕ) → (dists.is_dist text ≡ true) ↔ IsDist text }
-    ensures split { (text : List ℕ) → dists.is_dist text ≡ true → text ≡ dist_text (dist_name text) (dist_version text) (dist_build text) }
-    ensures parts { (text name version build : List ℕ) → IsSplit text name version build → (dist_name text ≡ name) × (dist_version text ≡ version) × (dist_build text ≡ build) }
+    ensures split { (text : List ℕ) → dists.is_dist text ≡ true →
+        text ≡ dist_text (dist_name text) (dist_version text) (dist_build text) }
+    ensures parts { (text name version build : List ℕ) → IsSplit text name version build →
+        (dist_name text ≡ name) × (dist_version text ≡ version) × (dist_build text ≡ build) }
 {
     cut_laws();
 }
@@ -153,7 +158,8 @@ impl Dist {
     /// The name: what stands before the last two `-`. It takes no memory.
     pub fn name(&self) -> &str
         ensures name { result.now ≡ dist_name self.now }
-        ensures split { self.now ≡ dist_text (dist_name self.now) (dist_version self.now) (dist_build self.now) }
+        ensures split { self.now
+            ≡ dist_text (dist_name self.now) (dist_version self.now) (dist_build self.now) }
     {
         dist_laws();
         let (front, _) = cut(self.text.as_str());
@@ -164,7 +170,8 @@ impl Dist {
     /// The version: what stands between the last two `-`. It takes no memory.
     pub fn version(&self) -> &str
         ensures version { result.now ≡ dist_version self.now }
-        ensures split { self.now ≡ dist_text (dist_name self.now) (dist_version self.now) (dist_build self.now) }
+        ensures split { self.now
+            ≡ dist_text (dist_name self.now) (dist_version self.now) (dist_build self.now) }
     {
         dist_laws();
         let (front, _) = cut(self.text.as_str());
@@ -175,7 +182,8 @@ impl Dist {
     /// The build: what stands behind the last `-`. It takes no memory.
     pub fn build(&self) -> &str
         ensures build { result.now ≡ dist_build self.now }
-        ensures split { self.now ≡ dist_text (dist_name self.now) (dist_version self.now) (dist_build self.now) }
+        ensures split { self.now
+            ≡ dist_text (dist_name self.now) (dist_version self.now) (dist_build self.now) }
     {
         dist_laws();
         let (_, build) = cut(self.text.as_str());

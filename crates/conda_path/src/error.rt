@@ -5,8 +5,8 @@ use thiserror::Error;
 /// Why a text is no path or no prefix.
 #[derive(Clone, Copy, Debug, PartialEq, Eq, PartialOrd, Ord, Hash, Error)]
 pub enum PathErr {
-    /// `at` is the least offset in bytes where a bad part begins or a bad byte stands, else the limit
-    /// that the text is longer than.
+    /// `at` is the least offset in bytes where a bad part begins or a bad byte stands, else the
+    /// limit that the text is longer than.
     #[error("bad path at {at}")]
     BadPath { at: usize },
     /// There was no memory for the answer.

@@ -1,4 +1,5 @@
-ghost use Rattle.std.specs.Prelude.{◌≡◌, ◌≤◌, ◌<◌, ◌%◌, ℕ, List, Some, MatchOption, codes, drop, false, length, nat_eq, sum, true, unwrap_or};
+ghost use Rattle.std.specs.Prelude.{◌≡◌, ◌≤◌, ◌<◌, ◌%◌, ℕ, List, Some, MatchOption, false, true};
+ghost use Rattle.std.specs.Prelude.{codes, drop, length, nat_eq, sum, unwrap_or};
 ghost use Rattle.std.specs.List.{starts_with};
 ghost use Rattle.conda_path.specs.Lanes as lanes_spec;
 ghost use Rattle.conda_path.specs.Lanes.{lane_number, IsTrash};
@@ -8,7 +9,9 @@ use conda_base::{cut_first, cut_laws, number_laws, read_u64};
 
 /// What stands behind `conda-meta/.trash/`.
 fn in_trash(path: &str) -> Option<&str>
-    ensures { MatchOption result (starts_with nat_eq path.now (codes "conda-meta/.trash/") ≡ false) (λ rest. (starts_with nat_eq path.now (codes "conda-meta/.trash/") ≡ true) × (rest.now ≡ drop 18 path.now)) }
+    ensures { let in_trash = starts_with nat_eq path.now (codes "conda-meta/.trash/") in
+        MatchOption result (in_trash ≡ false)
+        (λ rest. (in_trash ≡ true) × (rest.now ≡ drop 18 path.now)) }
 {
     path.strip_prefix("conda-meta/.trash/")
 }
@@ -25,8 +28,10 @@ fn trash_number(path: &str) -> Option<u64>
 
 /// Only the paths of the trash have a number: the k of `conda-meta/.trash/<n>.<k>`.
 pub fn trash_laws()
-    ensures number { (path : List ℕ) (n k : ℕ) → IsTrash path n k → lanes_spec.trash_number path ≡ Some k }
-    ensures only { (path : List ℕ) (k : ℕ) → lanes_spec.trash_number path ≡ Some k → (n : ℕ) × IsTrash path n k }
+    ensures number { (path : List ℕ) (n k : ℕ) →
+        IsTrash path n k → lanes_spec.trash_number path ≡ Some k }
+    ensures only { (path : List ℕ) (k : ℕ) →
+        lanes_spec.trash_number path ≡ Some k → (n : ℕ) × IsTrash path n k }
 {
     cut_laws();
     number_laws();
@@ -51,8 +56,9 @@ fn path_number(path: &str) -> u64
     }
 }
 
-/// The lane of a path, of so many: for `conda-meta/.trash/<n>.<k>`, with n and k in decimal below 2^64 without a
-/// leading zero, it is `k` modulo `lanes`, else the sum of the path's bytes modulo `lanes`. It takes no memory.
+/// The lane of a path, of so many: for `conda-meta/.trash/<n>.<k>`, with n and k in decimal below
+/// 2^64 without a leading zero, it is `k` modulo `lanes`, else the sum of the path's bytes modulo
+/// `lanes`. It takes no memory.
 pub fn lane_of(path: &RelPath, lanes: u32) -> u32
     requires { 1 ≤ lanes }
     ensures within { result < lanes }

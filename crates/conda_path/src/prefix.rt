@@ -1,7 +1,8 @@
 ghost use Rattle.std.specs.Prelude.{◌≡◌, ◌↔◌, IfErr, IfOk, IfSome, OnOk, None, true};
 ghost use Rattle.conda_base.specs.Reads.{Gives};
 ghost use Rattle.conda_path.specs.Faults.{path_err_fault, prefix_read};
-ghost use Rattle.conda_path.specs.Paths.{prefix_fault, IsInside, IsPrefixFault, IsPrefix, is_inside, leads_below};
+ghost use Rattle.conda_path.specs.Paths.{IsInside, IsPrefix, IsPrefixFault};
+ghost use Rattle.conda_path.specs.Paths.{is_inside, leads_below, prefix_fault};
 
 use crate::error::PathErr;
 use crate::scan::{Bad, first_offence};
@@ -72,8 +73,9 @@ fn text_inside(text: &[u8], other: &[u8]) -> bool
 impl Prefix {
     /// Reads a prefix.
     ///
-    /// `BadPath` has 0 where the text doesn't begin with `/`, else the least offset behind it where a bad part
-    /// begins or a bad byte stands, else 512, the limit that the text is longer than.
+    /// `BadPath` has 0 where the text doesn't begin with `/`, else the least offset behind it
+    /// where a bad part begins or a bad byte stands, else 512, the limit that the text is longer
+    /// than.
     pub fn read(alloc: Global, text: &str) -> Result<Prefix, PathErr>
         ensures same { IfOk result (λ prefix. prefix ≡ text.now) }
         ensures read { Gives path_err_fault result (prefix_read text.now) }
@@ -100,7 +102,8 @@ impl Prefix {
     }
 
     #[tactic(auto, using(crate::proofs::InsideLemmas::inside_rule))]
-    /// Whether the prefix is the other one or lies below it. `/ab` isn't inside `/a`. It takes no memory.
+    /// Whether the prefix is the other one or lies below it. `/ab` isn't inside `/a`. It takes no
+    /// memory.
     pub fn inside(&self, other: &Prefix) -> bool
         ensures rule { (result ≡ true) ↔ IsInside self.now other.now }
         ensures exact { result ≡ is_inside self.now other.now }

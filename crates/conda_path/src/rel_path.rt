@@ -12,8 +12,8 @@ use std::marker::Model;
 /// The most bytes of a path.
 const PATH_LIMIT: usize = 1_024;
 
-/// A path below a prefix: 1 to 1,024 bytes; its parts, split at `/`, are neither empty nor `.` nor `..`;
-/// no byte is below 32 or 127. This project's own rule.
+/// A path below a prefix: 1 to 1,024 bytes; its parts, split at `/`, are neither empty nor `.` nor
+/// `..`; no byte is below 32 or 127. This project's own rule.
 ///
 /// Contracts see it as the list of its bytes, by which paths are compared and hashed.
 #[derive(Clone, Debug, PartialEq, Eq, PartialOrd, Ord, Hash, Drop)]
@@ -49,8 +49,8 @@ fn fault_of(text: &str) -> Option<usize>
 impl RelPath {
     /// Reads a path.
     ///
-    /// `BadPath` has the least offset where a bad part begins or a bad byte stands, else 1,024, the limit that the
-    /// text is longer than.
+    /// `BadPath` has the least offset where a bad part begins or a bad byte stands, else 1,024,
+    /// the limit that the text is longer than.
     pub fn read(alloc: Global, text: &str) -> Result<RelPath, PathErr>
         ensures same { IfOk result (λ path. path ≡ text.now) }
         ensures read { Gives path_err_fault result (path_read text.now) }
