@@ -1,6 +1,7 @@
 //! Texts, bytes and lists as contracts see them: by what they hold, not by how much room they have.
 #![tactic(auto)]
 
+mod ascending;
 mod bytes;
 mod copied;
 mod cut;
@@ -8,6 +9,7 @@ mod number;
 mod rows;
 mod text;
 
+pub use ascending::ascending_laws;
 pub use bytes::Bytes;
 pub use copied::{Copied, copied_all};
 pub use cut::{cut_first, cut_last, cut_laws};

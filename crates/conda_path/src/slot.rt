@@ -15,8 +15,8 @@ use std::hash::{Hash, Hasher};
 
 /// A package in a channel, its folder in the cache and its slot: `<channel>/<subdir>/<dist>`.
 ///
-/// Keys are compared and hashed by the bytes of that text. A channel's name holds no `/`, and of such keys no
-/// two have one text.
+/// Keys are compared and hashed by the bytes of that text. A channel's name holds no `/`, and of
+/// such keys no two have one text.
 #[derive(Clone, Debug, Drop)]
 pub struct SlotKey {
     pub channel: Text,
