@@ -1,4 +1,4 @@
-use conda_base::{Text, cut_first, cut_last, read_digits, read_number};
+use conda_base::{Copied, Text, cut_first, cut_last, read_digits, read_number};
 use std::alloc::{AllocError, Global};
 use std::cmp::Ordering;
 
@@ -6,6 +6,7 @@ use std::cmp::Ordering;
 pub fn answer(alloc: Global, call: &str, arguments: &[Text]) -> Result<Option<String>, AllocError> {
     let answer = match (call, arguments) {
         ("text.order", [left, right]) => String::from_str(alloc, order(left, right))?,
+        ("text.copy", [text]) => text.copy()?.into_string(),
         ("cut.first", [text]) => halves(alloc, cut_first(text.as_str(), b':'))?,
         ("cut.last", [text]) => halves(alloc, cut_last(text.as_str(), b':'))?,
         ("number", [text]) => number(alloc, read_number(text.as_str().as_bytes(), 1_000))?,

@@ -1,4 +1,4 @@
-use conda_base::Text;
+use conda_base::{Copied, Text};
 use conda_path::{Dist, DistErr, PathErr, Prefix, RelPath, SlotKey, lane_of};
 use std::alloc::{AllocError, Global};
 use std::cmp::Ordering;
@@ -30,14 +30,16 @@ fn fault(alloc: Global, err: PathErr) -> Result<Option<String>, AllocError> {
 
 fn path(alloc: Global, text: &str) -> Result<Option<String>, AllocError> {
     match RelPath::read(alloc, text) {
-        Ok(_) => word(alloc, "read"),
+        Ok(path) if path.copy()?.as_str() == text => word(alloc, "read"),
+        Ok(_) => word(alloc, "changed"),
         Err(err) => fault(alloc, err),
     }
 }
 
 fn prefix(alloc: Global, text: &str) -> Result<Option<String>, AllocError> {
     match Prefix::read(alloc, text) {
-        Ok(_) => word(alloc, "read"),
+        Ok(prefix) if prefix.copy()?.as_str() == text => word(alloc, "read"),
+        Ok(_) => word(alloc, "changed"),
         Err(err) => fault(alloc, err),
     }
 }
@@ -57,6 +59,7 @@ fn inside(alloc: Global, text: &str, other: &str) -> Result<Option<String>, Allo
 fn dist(alloc: Global, text: &str) -> Result<Option<String>, AllocError> {
     match Dist::read(alloc, text) {
         Ok(dist) => {
+            let dist = dist.copy()?;
             let name = dist.name();
             let version = dist.version();
             let build = dist.build();
