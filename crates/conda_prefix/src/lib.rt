@@ -10,5 +10,3 @@ pub use binary::replace_binary;
 pub use error::PrefixErr;
 pub use text::replace_text;
 
-#[cfg(test)]
-mod tests;
