@@ -144,14 +144,7 @@ pub fn replace_binary(
                     need: prefix.len() as u64,
                 });
             }
-            let made = replace_runs(
-                alloc,
-                bytes.as_slice(),
-                Some(run),
-                &finder,
-                width,
-                prefix,
-            )?;
+            let made = replace_runs(alloc, bytes.as_slice(), Some(run), &finder, width, prefix)?;
             Ok(made)
         }
         None => Ok(bytes),

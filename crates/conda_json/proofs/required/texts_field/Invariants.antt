@@ -1,0 +1,8 @@
+use Rattle.std.specs.Prelude.{◌≡◌, drop}
+use Rattle.serde_json.specs.View.{items_view}
+use Rattle.conda_json.specs.Fields.{each, element_text, read_on}
+use Rattle.conda_json.proofs.required.texts_field.Given as goal
+
+abbrev pub invariant-loop-element : goal.invariant-loop-element
+invariant-loop-element l =
+    read_on l.texts.items (each (element_text l.field) (items_view (drop l.element-index l.list))) ≡ each (element_text l.field) (items_view l.list)
