@@ -51,7 +51,8 @@ pub fn optional_number(
     field: &'static str,
     null: Null,
 ) -> Result<Option<u64>, BadField>
-    ensures { MatchResult result (λ found. optional number_at null field.now (view value.now) ≡ Ok found)
+    ensures { MatchResult result
+        (λ found. optional number_at null field.now (view value.now) ≡ Ok found)
         (λ e. optional number_at null field.now (view value.now) ≡ Err e.field.now) }
 {
     if !is_field_there(value, field, null) {
@@ -66,7 +67,8 @@ pub fn optional_truth(
     field: &'static str,
     null: Null,
 ) -> Result<Option<bool>, BadField>
-    ensures { MatchResult result (λ found. optional truth_at null field.now (view value.now) ≡ Ok found)
+    ensures { MatchResult result
+        (λ found. optional truth_at null field.now (view value.now) ≡ Ok found)
         (λ e. optional truth_at null field.now (view value.now) ≡ Err e.field.now) }
 {
     if !is_field_there(value, field, null) {

@@ -17,7 +17,8 @@ use std::alloc::Global;
 /// Lists and objects may nest 127 deep. Of the members of an object with one name the last
 /// stays. Whole numbers below 2^64 are exact; a number too large for a float is refused.
 pub fn parse(alloc: Global, bytes: &[u8]) -> Result<Value, JsonErr>
-    ensures read { Gives json_fault_of (result_map_both view (λ e. e) result) (json_read bytes.now) }
+    ensures read { Gives json_fault_of (result_map_both view (λ e. e) result)
+        (json_read bytes.now) }
     ensures shallow { IfOk result (λ value. depth (view value) ≤ 127) }
     ensures keys_ascend { IfOk result (λ value. KeysAscend (view value)) }
     ensures refused { IsErrOf result JsonErr.BadJson → json_of bytes.now ≡ None }
@@ -36,7 +37,8 @@ pub fn parse(alloc: Global, bytes: &[u8]) -> Result<Value, JsonErr>
 
 /// Reads a JSON text that has to be an object. A text of another value is `BadJson` too.
 pub fn parse_object(alloc: Global, bytes: &[u8]) -> Result<Value, JsonErr>
-    ensures read { Gives json_fault_of (result_map_both view (λ e. e) result) (object_read bytes.now) }
+    ensures read { Gives json_fault_of (result_map_both view (λ e. e) result)
+        (object_read bytes.now) }
     ensures shallow { IfOk result (λ value. depth (view value) ≤ 127) }
     ensures keys_ascend { IfOk result (λ value. KeysAscend (view value)) }
     ensures never_a_field { result ≢ Err JsonErr.BadField }

@@ -1,12 +1,12 @@
 -- Lemmas on the runs of a binary file.
-use Rattle.std.proofs.Common.{◌≡◌, ◌≢◌, ℕ, suc, ◌+◌, ◌-◌, ◌*◌, ◌≤◌, ◌<◌, ◌==◌, inl, inr, List, [], ◌∷◌, ◌++◌, length, take, drop, replicate, slice_index, get_or, refl, ap, sym, subst, ◌∙◌, append_assoc, length-append, length-drop, arith, Some, None}
+use Rattle.std.proofs.Common.{◌≡◌, ℕ, suc, ◌+◌, ◌-◌, ◌≤◌, ◌<◌, inl, inr, List, [], ◌∷◌, ◌++◌, length, take, drop, replicate, slice_index, refl, ap, sym, subst, ◌∙◌, append_assoc, length-append, length-drop, arith, Some, None}
 use Rattle.std.proofs.Math.Seq.{drop-cons, get_or-append_seam}
 use Rattle.std.proofs.lemmas.Bool.{cases_order, eq-eqb, eqb-true}
 use Rattle.std.proofs.lemmas.List.{take-append-drop, length-take-le, get_or-append-add, get_or-take, get_or-drop, length-replicate}
 use Rattle.memchr.specs.Find.{FindsNeedle, IsFirstByte, is_byte}
 use Rattle.conda_base.specs.Signs.{nul}
 use Rattle.conda_prefix.specs.Text.{CutsInto, joined, IsReplaced}
-use Rattle.conda_prefix.specs.Binary.{BeginsRun, HasRun, IsFirstRun, Run, padded, Replaces, IsReplacedBinary}
+use Rattle.conda_prefix.specs.Binary.{HasRun, IsFirstRun, Run, padded, Replaces, IsReplacedBinary}
 
 -- where no placeholder occurs no run begins
 pub no_run : (placeholder bytes : List ℕ) → FindsNeedle bytes placeholder 0 None → ¬ HasRun placeholder bytes

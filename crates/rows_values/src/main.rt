@@ -2,6 +2,8 @@
 #![tactic(auto)]
 
 mod base;
+mod json;
+mod prefix;
 
 use conda_base::Text;
 use rows_text::{Table, print_rows};
@@ -18,6 +20,12 @@ impl Table for Values {
         arguments: &[Text],
     ) -> Result<Option<String>, AllocError> {
         if let Some(answer) = base::answer(alloc, call, arguments)? {
+            return Ok(Some(answer));
+        }
+        if let Some(answer) = json::answer(alloc, call, arguments)? {
+            return Ok(Some(answer));
+        }
+        if let Some(answer) = prefix::answer(alloc, call, arguments)? {
             return Ok(Some(answer));
         }
         Ok(None)

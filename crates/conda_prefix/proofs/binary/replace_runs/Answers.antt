@@ -1,4 +1,3 @@
-use Rattle.std.proofs.Common.{subst, length, ◌≤◌}
 use Rattle.conda_prefix.proofs.RunLemmas.{goes_on, goes_on_behind, all_replaced, shorter_rest, length_stays}
 use Rattle.conda_prefix.proofs.binary.replace_runs.Goals as goal
 
