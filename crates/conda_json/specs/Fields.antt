@@ -1,6 +1,6 @@
 -- What the fields of an object have to be. A reader of an object is said as its fields in order, by `>>=`; the fault is the
 -- name of the first field that is absent or of another kind. Of a value that is no object each field is absent.
-use Rattle.std.specs.Prelude.{ℕ, List, [], ◌∷◌, ◌++◌, Bool, true, false, not, is_some, Option, Some, None, Ok, if◌then◌else◌}
+use Rattle.std.specs.Prelude.{ℕ, List, [], ◌∷◌, ◌++◌, Bool, false, not, is_some, Option, Some, None, Ok, if◌then◌else◌}
 use Rattle.std.specs.Option.{ok_or, option_map_or}
 use Rattle.serde_json.specs.Data.{Data, Items, no_items, item}
 use Rattle.serde_json.specs.Find.{get, as_null, as_str}
