@@ -2,8 +2,6 @@
 #![tactic(auto)]
 
 mod base;
-mod json;
-mod prefix;
 
 use conda_base::Text;
 use rows_text::{Table, print_rows};
@@ -20,12 +18,6 @@ impl Table for Values {
         arguments: &[Text],
     ) -> Result<Option<String>, AllocError> {
         if let Some(answer) = base::answer(alloc, call, arguments)? {
-            return Ok(Some(answer));
-        }
-        if let Some(answer) = json::answer(alloc, call, arguments)? {
-            return Ok(Some(answer));
-        }
-        if let Some(answer) = prefix::answer(alloc, call, arguments)? {
             return Ok(Some(answer));
         }
         Ok(None)
