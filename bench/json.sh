@@ -2,7 +2,7 @@
 # Times `parse` on a repodata text of 200 MB and measures its memory, beside Python's `json`.
 set -eu
 . "$(dirname "$0")/program.sh"
-build json_bench conda_json <<'PROGRAM'
+build json_bench conda_base conda_json <<'PROGRAM'
 #![tactic(auto)]
 
 use conda_json::{object_of, parse};

@@ -1,22 +1,39 @@
 -- What bytes mean as JSON (RFC 8259, as serde_json takes it), and what a named field is.
-use Rattle.std.specs.Prelude.{◌≡◌, ℕ, List, Bool, Option, Some, None, option_and_then, if◌then◌else◌}
+use Rattle.std.specs.Prelude.{◌≡◌, ℕ, List, Bool, Option, Some, None, option_map, option_and_then, if◌then◌else◌}
+use Rattle.std.specs.Option.{ok_or}
 use Rattle.std.specs.Ordering.{nat_cmp}
 use Rattle.std.specs.declared.cmp.Ordering.{Ordering}
 use Rattle.std.specs.Cmp.Lexicographic.{slice_cmp}
 use Rattle.std.specs.Str.{is_utf8}
 use Rattle.serde_json.specs.Data.{Data, null, boolean, number, string, array, object, Items, no_items, item, Members, no_members, member}
 use Rattle.serde_json.specs.Read.{read}
-use Rattle.serde_json.specs.Find.{get, as_number, as_u64, as_str, as_array, as_object}
+use Rattle.serde_json.specs.Find.{get, as_bool, as_number, as_u64, as_str, as_array, as_object}
+use Rattle.conda_base.specs.Reads.{Read, ◌>>=◌}
+use Rattle.conda_json.specs.declared.error.JsonErr.{JsonErr}
 
 -- the value that bytes mean, where they are UTF-8 and a JSON text of at most 127 nested lists and objects
 abbrev pub json_of : List ℕ → Option Data
 json_of bytes = if is_utf8 bytes then read bytes else None
 
--- the object that bytes mean
-abbrev pub object_in : List ℕ → Option Members
-object_in bytes = option_and_then as_object (json_of bytes)
+-- Which fault an error names: each but want of memory.
+abbrev pub json_fault_of : JsonErr → Option JsonErr
+json_fault_of JsonErr.BadJson = Some JsonErr.BadJson
+json_fault_of JsonErr.BadField = Some JsonErr.BadField
+json_fault_of JsonErr.Memory = None
 
--- the named field of an object, where it is a text, a whole number below 2^64, a list or an object
+-- the value that bytes mean, or that they are no JSON text
+abbrev pub json_read : List ℕ → Read Data JsonErr
+json_read bytes = ok_or (json_of bytes) JsonErr.BadJson
+
+-- the value, where it is an object
+abbrev pub if_object : Data → Option Data
+if_object value = option_map object (as_object value)
+
+-- the object that bytes mean, or that they are no JSON object
+abbrev pub object_read : List ℕ → Read Data JsonErr
+object_read bytes = json_read bytes >>= (λ value. ok_or (if_object value) JsonErr.BadJson)
+
+-- the named field of an object, where it is a text, a whole number below 2^64, a list, an object or a truth value
 abbrev pub text_at : Data → List ℕ → Option (List ℕ)
 text_at value name = option_and_then as_str (get name value)
 
@@ -28,6 +45,13 @@ list_at value name = option_and_then as_array (get name value)
 
 abbrev pub object_at : Data → List ℕ → Option Members
 object_at value name = option_and_then as_object (get name value)
+
+abbrev pub truth_at : Data → List ℕ → Option Bool
+truth_at value name = option_and_then as_bool (get name value)
+
+-- the named field of an object as a value of its own, where it is an object
+abbrev pub inner_at : Data → List ℕ → Option Data
+inner_at value name = option_and_then if_object (get name value)
 
 -- a name is below the first name that follows
 abbrev pub IsBelowFirst : List ℕ → Members → Type 0

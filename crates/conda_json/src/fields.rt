@@ -32,7 +32,8 @@ pub fn number_of(value: &Value, name: &str) -> Result<u64, JsonErr>
 
 /// The list in the named field of an object.
 pub fn list_of<'a>(value: &'a Value, name: &str) -> Result<&'a [Value], JsonErr>
-    ensures { MatchResult result (λ list. list_at (view value.now) name.now ≡ Some (items_view list.now))
+    ensures { MatchResult result
+        (λ list. list_at (view value.now) name.now ≡ Some (items_view list.now))
         (λ e. (e ≡ JsonErr.BadField) × (list_at (view value.now) name.now ≡ None)) }
 {
     match value.get(name) {

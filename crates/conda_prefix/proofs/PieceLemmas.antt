@@ -1,9 +1,31 @@
 -- Lemmas on bytes cut at a placeholder.
-use Rattle.std.proofs.Common.{◌≡◌, ℕ, ◌+◌, ◌≤◌, ◌<◌, List, [], ◌∷◌, ◌++◌, length, take, drop, refl, ap, sym, subst, ◌∙◌, append_assoc, arith, Some, None}
+use Rattle.std.proofs.Common.{◌≡◌, ℕ, ◌+◌, ◌<◌, List, [], ◌∷◌, ◌++◌, length, take, drop, refl, ap, sym, subst, ◌∙◌, append_assoc, length-append, arith, Some}
+use Rattle.std.proofs.Math.Seq.{drop-append_seam}
 use Rattle.std.proofs.lemmas.List.{take-append-drop, length-take-le}
-use Rattle.memchr.specs.Find.{OccursAt, FindsNeedle}
+use Rattle.memchr.specs.Find.{FindsNeedle}
 use Rattle.memchr.proofs.lemmas.MatchLemmas.{OccursAt-split}
-use Rattle.conda_prefix.specs.Text.{CutsInto, joined, IsReplaced}
+use Rattle.conda_prefix.specs.Text.{IsPlain, IsCut, CutsInto, joined, IsReplaced}
+
+-- where the first placeholder occurs the bytes are cut
+pub cut_at : (placeholder bytes : List ℕ) (at : ℕ) → FindsNeedle bytes placeholder 0 (Some at)
+    → IsCut placeholder bytes (take at bytes) (drop (length placeholder) (drop at bytes))
+cut_at placeholder bytes at found =
+    let long : length (take at bytes) ≡ at = length-take-le at bytes (omega (arith, found.1.fits)) in
+    let behind : drop at bytes ≡ placeholder ++ drop (at + length placeholder) bytes = OccursAt-split bytes placeholder at found.1 in
+    let rest : drop (length placeholder) (drop at bytes) ≡ drop (at + length placeholder) bytes =
+    ap (drop (length placeholder)) behind ∙ drop-append_seam placeholder (drop (at + length placeholder) bytes) in
+    record {
+      is = sym (take-append-drop at bytes) ∙ ap (λ r. take at bytes ++ r) (behind ∙ ap (λ r. placeholder ++ r) (sym rest));
+      first = subst (λ k. FindsNeedle bytes placeholder 0 (Some k)) (sym long) found;
+    }
+
+-- bytes that are cut have the placeholder
+pub cut_not_plain : (placeholder bytes piece rest : List ℕ) → 0 < length placeholder → IsCut placeholder bytes piece rest → ¬ IsPlain placeholder bytes
+cut_not_plain placeholder bytes piece rest some cut none = none (length piece) (omega arith) cut.first.0.high cut.first.1
+
+-- a rest is shorter
+pub shorter_rest : (placeholder bytes piece rest : List ℕ) → 0 < length placeholder → IsCut placeholder bytes piece rest → length rest < length bytes
+shorter_rest placeholder bytes piece rest some cut = omega (arith, simp length-append at (ap length cut.is))
 
 -- what was made so far, and what is made of what is left, is what is made of the bytes
 abbrev pub GoesOn : List ℕ → List ℕ → List ℕ → List ℕ → List ℕ → List ℕ → Type 0
@@ -14,34 +36,23 @@ GoesOn placeholder prefix bytes start made rest =
 pub goes_on : (placeholder prefix bytes start : List ℕ) → GoesOn placeholder prefix bytes start start bytes
 goes_on placeholder prefix bytes start more last cut = (more, cut, refl)
 
-cut_at : (placeholder bytes : List ℕ) (at : ℕ) → OccursAt bytes placeholder at → bytes ≡ take at bytes ++ (placeholder ++ drop (at + length placeholder) bytes)
-cut_at placeholder bytes at occurs = sym (take-append-drop at bytes) ∙ ap (λ r. take at bytes ++ r) (OccursAt-split bytes placeholder at occurs)
-
 regroup : (made piece prefix later last : List ℕ) → ((made ++ piece) ++ prefix) ++ (later ++ last) ≡ made ++ (((piece ++ prefix) ++ later) ++ last)
 regroup made piece prefix later last = simp append_assoc
 
 -- the same behind one more placeholder
-pub goes_on_behind : (placeholder prefix bytes start made rest : List ℕ) (at : ℕ) → GoesOn placeholder prefix bytes start made rest
-    → FindsNeedle rest placeholder 0 (Some at)
-    → GoesOn placeholder prefix bytes start ((made ++ take at rest) ++ prefix) (drop (at + length placeholder) rest)
-goes_on_behind placeholder prefix bytes start made rest at h found more last cut =
-    let long : length (take at rest) ≡ at = length-take-le at rest (omega (arith, found.1.fits)) in
-    let found_there : FindsNeedle rest placeholder 0 (Some (length (take at rest))) = subst (λ k. FindsNeedle rest placeholder 0 (Some k)) (sym long) found in
-    let whole = h (take at rest ∷ more) last (drop (at + length placeholder) rest, cut_at placeholder rest at found.1, found_there, cut) in
-    (whole.0, whole.1, regroup made (take at rest) prefix _ last ∙ whole.2)
-
--- the same of what then was made and is left
-pub goes_on_to : (placeholder prefix bytes start made rest next left : List ℕ) (at : ℕ) → GoesOn placeholder prefix bytes start made rest
-    → FindsNeedle rest placeholder 0 (Some at) → next ≡ (made ++ take at rest) ++ prefix → left ≡ drop (at + length placeholder) rest
-    → GoesOn placeholder prefix bytes start next left
-goes_on_to placeholder prefix bytes start made rest next left at h found n l =
-    subst (λ m. GoesOn placeholder prefix bytes start m left) (sym n)
-    (subst (λ r. GoesOn placeholder prefix bytes start ((made ++ take at rest) ++ prefix) r) (sym l) (goes_on_behind placeholder prefix bytes start made rest at h found))
+pub goes_on_behind : (placeholder prefix bytes start made rest piece left : List ℕ) → GoesOn placeholder prefix bytes start made rest
+    → IsCut placeholder rest piece left → GoesOn placeholder prefix bytes start ((made ++ piece) ++ prefix) left
+goes_on_behind placeholder prefix bytes start made rest piece left h here more last cut =
+    let whole = h (piece ∷ more) last (left, here, cut) in
+    (whole.0, whole.1, regroup made piece prefix _ last ∙ whole.2)
 
 -- where no placeholder is left
-pub all_replaced : (placeholder prefix bytes start made rest : List ℕ) → GoesOn placeholder prefix bytes start made rest
-    → FindsNeedle rest placeholder 0 None
+pub all_replaced : (placeholder prefix bytes start made rest : List ℕ) → GoesOn placeholder prefix bytes start made rest → IsPlain placeholder rest
     → (written : List ℕ) × (made ++ rest ≡ start ++ written) × IsReplaced placeholder prefix bytes written
 all_replaced placeholder prefix bytes start made rest h none =
     let whole = h [] rest (refl, none) in
     (joined prefix whole.0 rest, whole.2, record { pieces = whole.0; last = rest; cut = whole.1; is = refl })
+
+-- bytes without the placeholder stay
+pub plain_stays : (placeholder prefix bytes : List ℕ) → IsPlain placeholder bytes → IsReplaced placeholder prefix bytes bytes
+plain_stays placeholder prefix bytes none = record { pieces = []; last = bytes; cut = (refl, none); is = refl }

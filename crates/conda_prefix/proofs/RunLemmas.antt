@@ -1,36 +1,74 @@
 -- Lemmas on the runs of a binary file.
-use Rattle.std.proofs.Common.{◌≡◌, ◌≢◌, ℕ, suc, ◌+◌, ◌-◌, ◌*◌, ◌≤◌, ◌<◌, ◌==◌, inl, inr, List, [], ◌∷◌, ◌++◌, length, take, drop, replicate, slice_index, get_or, refl, ap, sym, subst, ◌∙◌, append_assoc, length-append, length-drop, arith, Some, None}
-use Rattle.std.proofs.Math.Seq.{drop-cons}
-use Rattle.std.proofs.lemmas.Bool.{cases_order}
-use Rattle.std.proofs.lemmas.List.{take-append-drop, take-take, length-take-le, get_or-take, get_or-drop, length-replicate}
-use Rattle.memchr.specs.Find.{OccursAt, FindsNeedle, Nowhere, Passes, is_byte}
+use Rattle.std.proofs.Common.{◌≡◌, ℕ, suc, ◌+◌, ◌-◌, ◌≤◌, ◌<◌, inl, inr, List, [], ◌∷◌, ◌++◌, length, take, drop, replicate, slice_index, refl, ap, sym, subst, ◌∙◌, append_assoc, length-append, length-drop, arith, Some, None}
+use Rattle.std.proofs.Math.Seq.{drop-cons, get_or-append_seam}
+use Rattle.std.proofs.lemmas.Bool.{cases_order, eq-eqb, eqb-true}
+use Rattle.std.proofs.lemmas.List.{take-append-drop, length-take-le, get_or-append-add, get_or-take, get_or-drop, length-replicate}
+use Rattle.memchr.specs.Find.{FindsNeedle, IsFirstByte, is_byte}
+use Rattle.conda_base.specs.Signs.{nul}
 use Rattle.conda_prefix.specs.Text.{CutsInto, joined, IsReplaced}
-use Rattle.conda_prefix.specs.Binary.{BeginsRun, HasRun, IsFirstRun, Run, padded, Replaces, IsReplacedBinary}
+use Rattle.conda_prefix.specs.Binary.{HasRun, IsFirstRun, Run, padded, Replaces, IsReplacedBinary}
 
 -- where no placeholder occurs no run begins
 pub no_run : (placeholder bytes : List ℕ) → FindsNeedle bytes placeholder 0 None → ¬ HasRun placeholder bytes
 no_run placeholder bytes none has = none has.0 (omega arith) (let fits = has.1.0.fits in omega arith) has.1.0
 
 -- where no NUL stands behind the first placeholder no run begins
-pub no_nul : (placeholder bytes : List ℕ) (at : ℕ) → FindsNeedle bytes placeholder 0 (Some at)
-    → ((k : ℕ) → at + length placeholder ≤ k → k < length bytes → slice_index bytes k ≢ 0) → ¬ HasRun placeholder bytes
-no_nul placeholder bytes at found free has =
-    let behind : has.0 + length placeholder ≤ has.1.1 = has.1.2 in
-    elim (cases_order has.0 at) as (λ _. ⊥) [
-      | inl same ↦ free has.1.1 (omega arith) has.1.3 has.1.4
-      | inr other ↦ elim other as (λ _. ⊥) [
-        | inl lower ↦ found.0.before has.0 (omega arith) lower has.1.0
-        | inr higher ↦ free has.1.1 (omega arith) has.1.3 has.1.4
+pub no_nul : (placeholder bytes : List ℕ) (start : ℕ) → FindsNeedle bytes placeholder 0 (Some start)
+    → IsFirstByte (is_byte nul) (drop (length placeholder) (drop start bytes)) None → ¬ HasRun placeholder bytes
+no_nul placeholder bytes start found none has =
+    let first : start ≤ has.0 = elim (cases_order has.0 start) as (λ _. start ≤ has.0) [
+      | inl same ↦ omega arith
+      | inr other ↦ elim other as (λ _. start ≤ has.0) [
+        | inl lower ↦ absurd (found.0.before has.0 (omega arith) lower has.1.0)
+        | inr higher ↦ omega arith
       ]
-    ]
+    ] in
+    let behind : has.0 + length placeholder ≤ has.1.1 = has.1.2 in
+    let at : start + (length placeholder + (has.1.1 - (start + length placeholder))) ≡ has.1.1 = omega arith in
+    none (has.1.1 - (start + length placeholder)) (omega arith) (omega (arith, length-drop (length placeholder) (drop start bytes), length-drop start bytes, has.1.3))
+    (eq-eqb _ nul (get_or-drop (length placeholder) (drop start bytes) (has.1.1 - (start + length placeholder)) 0
+    ∙ get_or-drop start bytes (length placeholder + (has.1.1 - (start + length placeholder))) 0 ∙ ap (slice_index bytes) at ∙ has.1.4))
 
--- no NUL from a place up to the first behind it
-pub no_zero : (bytes : List ℕ) (n more : ℕ) (rest : List ℕ) → rest ≡ drop n bytes → Nowhere (Passes (is_byte 0) rest) 0 more
-    → (k : ℕ) → n ≤ k → k < n + more → slice_index bytes k ≢ 0
-no_zero bytes n more rest is none k low high zero =
-    let at : n + (k - n) ≡ k = omega arith in
-    let e : slice_index rest (k - n) ≡ 0 = ap (λ r. slice_index r (k - n)) is ∙ get_or-drop n bytes (k - n) 0 ∙ ap (slice_index bytes) at ∙ zero in
-    none (k - n) (omega arith) (omega arith) (ap (λ x. x == 0) e)
+-- bytes that begin with a NUL
+from_nul : (bytes : List ℕ) → 0 < length bytes → slice_index bytes 0 ≡ nul → bytes ≡ nul ∷ drop 1 bytes
+from_nul bytes some zero = drop-cons bytes 0 0 some ∙ ap (λ b. b ∷ drop 1 bytes) zero
+
+-- the first run ends at the first NUL behind the first placeholder
+pub run_at : (placeholder bytes : List ℕ) (start more : ℕ) → FindsNeedle bytes placeholder 0 (Some start)
+    → IsFirstByte (is_byte nul) (drop (length placeholder) (drop start bytes)) (Some more)
+    → IsFirstRun placeholder bytes (take start bytes) (take (length placeholder + more) (drop start bytes)) (drop 1 (drop (length placeholder + more) (drop start bytes)))
+run_at placeholder bytes start more found ends =
+    let behind = drop start bytes in
+    let room : length placeholder + more < length behind = omega (arith, ends.0.high, length-drop (length placeholder) behind) in
+    let wide : length (take (length placeholder + more) behind) ≡ length placeholder + more = length-take-le (length placeholder + more) behind (omega arith) in
+    let same : length placeholder + more + 0 ≡ length placeholder + more = omega arith in
+    let zero : slice_index (drop (length placeholder + more) behind) 0 ≡ nul =
+    get_or-drop (length placeholder + more) behind 0 0 ∙ ap (slice_index behind) same ∙ sym (get_or-drop (length placeholder) behind more 0) ∙ eqb-true _ nul ends.1 in
+    let end = from_nul (drop (length placeholder + more) behind) (omega (arith, length-drop (length placeholder + more) behind)) zero in
+    record {
+      is = sym (take-append-drop start bytes)
+          ∙ ap (λ b. take start bytes ++ b) (sym (take-append-drop (length placeholder + more) behind) ∙ ap (λ e. take (length placeholder + more) behind ++ e) end);
+      first = subst (λ k. FindsNeedle bytes placeholder 0 (Some k)) (sym (length-take-le start bytes (omega (arith, found.1.fits)))) found;
+      whole = omega arith;
+      ends = λ k low high zeroed.
+          let at : length placeholder + (k - length placeholder) ≡ k = omega arith in
+          ends.0.before (k - length placeholder) (omega arith) (omega arith)
+          (eq-eqb _ nul (get_or-drop (length placeholder) behind (k - length placeholder) 0 ∙ ap (slice_index behind) at
+          ∙ sym (get_or-take (length placeholder + more) behind k 0 (omega arith)) ∙ zeroed));
+    }
+
+-- bytes with a first run have a run
+pub first_has_run : (placeholder bytes before text rest : List ℕ) → IsFirstRun placeholder bytes before text rest → HasRun placeholder bytes
+first_has_run placeholder bytes before text rest run =
+    let long : length bytes ≡ length before + (length text + suc (length rest)) = ap length run.is ∙ simp length-append in
+    let whole : length placeholder ≤ length text = run.whole in
+    let end : slice_index bytes (length before + length text) ≡ nul =
+    ap (λ b. slice_index b (length before + length text)) run.is ∙ get_or-append-add before (text ++ nul ∷ rest) (length text) 0 ∙ get_or-append_seam text nul rest 0 in
+    (length before, (run.first.1, length before + length text, omega arith, omega arith, end))
+
+-- a rest is shorter
+pub shorter_rest : (placeholder bytes before text rest : List ℕ) → IsFirstRun placeholder bytes before text rest → length rest < length bytes
+shorter_rest placeholder bytes before text rest run = omega (arith, simp length-append at (ap length run.is))
 
 -- ---- what is made of the runs
 
@@ -43,58 +81,26 @@ GoesOn placeholder prefix bytes made rest =
 pub goes_on : (placeholder prefix bytes : List ℕ) → GoesOn placeholder prefix bytes [] bytes
 goes_on placeholder prefix bytes runs later replaces = (runs, replaces)
 
--- the bytes round a run
-around : (rest : List ℕ) (start nul : ℕ) → start ≤ nul → nul < length rest → slice_index rest nul ≡ 0
-    → rest ≡ take start rest ++ (drop start (take nul rest) ++ 0 ∷ drop (nul + 1) rest)
-around rest start nul low high zero =
-    let front : take nul rest ≡ take start rest ++ drop start (take nul rest) =
-    sym (take-append-drop start (take nul rest)) ∙ ap (λ t. t ++ drop start (take nul rest)) (take-take start nul rest low) in
-    let next : suc nul ≡ nul + 1 = omega arith in
-    let back : drop nul rest ≡ 0 ∷ drop (nul + 1) rest = drop-cons rest nul 0 high ∙ ap (λ x. x ∷ drop (suc nul) rest) zero ∙ ap (λ n. 0 ∷ drop n rest) next in
-    sym (take-append-drop nul rest) ∙ ap (λ t. t ++ drop nul rest) front ∙ append_assoc (take start rest) (drop start (take nul rest)) (drop nul rest)
-    ∙ ap (λ t. take start rest ++ (drop start (take nul rest) ++ t)) back
-
-inside : (rest : List ℕ) (start nul k : ℕ) → k + start < nul → slice_index (drop start (take nul rest)) k ≡ slice_index rest (start + k)
-inside rest start nul k low = get_or-drop start (take nul rest) k 0 ∙ get_or-take nul rest (start + k) 0 (omega arith)
-
-first_run : (placeholder rest : List ℕ) (start nul : ℕ) → FindsNeedle rest placeholder 0 (Some start) → start + length placeholder ≤ nul → nul < length rest
-    → slice_index rest nul ≡ 0 → ((k : ℕ) → start + length placeholder ≤ k → k < nul → slice_index rest k ≢ 0)
-    → IsFirstRun placeholder rest (take start rest) (drop start (take nul rest)) (drop (nul + 1) rest)
-first_run placeholder rest start nul found low high zero next =
-    let long : length (take start rest) ≡ start = length-take-le start rest (omega arith) in
-    let wide : length (drop start (take nul rest)) ≡ nul - start = length-drop start (take nul rest) ∙ ap (λ n. n - start) (length-take-le nul rest (omega arith)) in
-    record {
-      is = around rest start nul (omega arith) high zero;
-      first = subst (λ k. FindsNeedle rest placeholder 0 (Some k)) (sym long) found;
-      whole = omega arith;
-      ends = λ k behind before zeroed.
-          next (start + k) (omega arith) (omega arith) (sym (inside rest start nul k (omega arith)) ∙ zeroed);
-    }
-
-regroup : (made before text nuls later : List ℕ) → ((made ++ before) ++ (text ++ nuls)) ++ (0 ∷ later) ≡ made ++ (before ++ ((text ++ nuls) ++ 0 ∷ later))
+regroup : (made before text nuls later : List ℕ) → (((made ++ before) ++ (text ++ nuls)) ++ nul ∷ []) ++ later ≡ made ++ (before ++ ((text ++ nuls) ++ nul ∷ later))
 regroup made before text nuls later = simp append_assoc
 
 -- the same behind one more run
-pub goes_on_behind : (placeholder prefix bytes made rest written : List ℕ) (start nul : ℕ) → GoesOn placeholder prefix bytes made rest
-    → FindsNeedle rest placeholder 0 (Some start) → start + length placeholder ≤ nul → nul < length rest → slice_index rest nul ≡ 0
-    → ((k : ℕ) → start + length placeholder ≤ k → k < nul → slice_index rest k ≢ 0)
-    → IsReplaced placeholder prefix (drop start (take nul rest)) written
-    → GoesOn placeholder prefix bytes
-    (((made ++ take start rest) ++ (written ++ replicate (length (drop start (take nul rest)) - length written) 0)) ++ 0 ∷ []) (drop (nul + 1) rest)
-goes_on_behind placeholder prefix bytes made rest written start nul h found low high zero next replaced runs later replaces =
-    let run : Run = record { before = take start rest; text = drop start (take nul rest); made = written } in
-    let whole = h (run ∷ runs) (take start rest ++ (padded run ++ 0 ∷ later))
-    (drop (nul + 1) rest, later, first_run placeholder rest start nul found low high zero next, replaced, refl, replaces) in (
-      whole.0,
-      subst (Replaces placeholder prefix whole.0 bytes)
-          (sym (append_assoc ((made ++ take start rest) ++ (written ++ replicate (length (drop start (take nul rest)) - length written) 0)) (0 ∷ []) later
-          ∙ regroup made (take start rest) written (replicate (length (drop start (take nul rest)) - length written) 0) later)) whole.1,
-    )
+pub goes_on_behind : (placeholder prefix bytes made rest before text left written : List ℕ) → GoesOn placeholder prefix bytes made rest
+    → IsFirstRun placeholder rest before text left → IsReplaced placeholder prefix text written
+    → GoesOn placeholder prefix bytes (((made ++ before) ++ (written ++ replicate (length text - length written) nul)) ++ nul ∷ []) left
+goes_on_behind placeholder prefix bytes made rest before text left written h here replaced runs later replaces =
+    let run : Run = record { before = before; text = text; made = written } in
+    let whole = h (run ∷ runs) (before ++ (padded run ++ nul ∷ later)) (left, later, here, replaced, refl, replaces) in
+    (whole.0, subst (Replaces placeholder prefix whole.0 bytes) (sym (regroup made before written (replicate (length text - length written) nul) later)) whole.1)
 
 -- where no run is left
 pub all_replaced : (placeholder prefix bytes made rest : List ℕ) → GoesOn placeholder prefix bytes made rest → ¬ HasRun placeholder rest
     → IsReplacedBinary placeholder prefix bytes (made ++ rest)
 all_replaced placeholder prefix bytes made rest h none = h [] rest (none, refl)
+
+-- bytes without a run stay
+pub none_stays : (placeholder prefix bytes : List ℕ) → ¬ HasRun placeholder bytes → IsReplacedBinary placeholder prefix bytes bytes
+none_stays placeholder prefix bytes none = ([], (none, refl))
 
 -- ---- the length
 
@@ -103,14 +109,14 @@ shorter : (placeholder prefix : List ℕ) (pieces : List (List ℕ)) (last bytes
     → CutsInto placeholder pieces last bytes → length (joined prefix pieces last) ≤ length bytes
 shorter placeholder prefix [] last bytes low cut = let e = ap length cut.0 in omega arith
 shorter placeholder prefix (piece ∷ pieces) last bytes low cut =
-    let more : length (joined prefix pieces last) ≤ length cut.0 = shorter placeholder prefix pieces last cut.0 low cut.3 in
-    let whole : length bytes ≡ length piece + (length placeholder + length cut.0) = ap length cut.1 ∙ simp length-append in
+    let more : length (joined prefix pieces last) ≤ length cut.0 = shorter placeholder prefix pieces last cut.0 low cut.2 in
+    let whole : length bytes ≡ length piece + (length placeholder + length cut.0) = ap length cut.1.is ∙ simp length-append in
     let made : length (joined prefix (piece ∷ pieces) last) ≡ (length piece + length prefix) + length (joined prefix pieces last) =
     ap length (append_assoc (piece ++ prefix) _ last) ∙ simp length-append in
     omega arith
 
 -- the length stays
-pub same_length : (placeholder prefix : List ℕ) (runs : List Run) (bytes made : List ℕ) → length prefix ≤ length placeholder
+same_length : (placeholder prefix : List ℕ) (runs : List Run) (bytes made : List ℕ) → length prefix ≤ length placeholder
     → Replaces placeholder prefix runs bytes made → length made ≡ length bytes
 same_length placeholder prefix [] bytes made low replaces = ap length replaces.1
 same_length placeholder prefix (run ∷ runs) bytes made low replaces =
@@ -122,16 +128,7 @@ same_length placeholder prefix (run ∷ runs) bytes made low replaces =
     ap length replaces.4 ∙ simp (length-append, length-replicate) in
     omega arith
 
--- what is made goes on behind one more run
-pub goes_on_to : (placeholder prefix bytes made rest text written next left : List ℕ) (start nul : ℕ) → GoesOn placeholder prefix bytes made rest
-    → FindsNeedle rest placeholder 0 (Some start) → start + length placeholder ≤ nul → nul < length rest → slice_index rest nul ≡ 0
-    → ((k : ℕ) → start + length placeholder ≤ k → k < nul → slice_index rest k ≢ 0)
-    → text ≡ drop start (take nul rest) → IsReplaced placeholder prefix text written
-    → next ≡ ((made ++ take start rest) ++ (written ++ replicate (length text - length written) 0)) ++ 0 ∷ [] → left ≡ drop (nul + 1) rest
-    → GoesOn placeholder prefix bytes next left
-goes_on_to placeholder prefix bytes made rest text written next left start nul h found low high zero none is replaced n l =
-    let here : IsReplaced placeholder prefix (drop start (take nul rest)) written = subst (λ t. IsReplaced placeholder prefix t written) is replaced in
-    let same : next ≡ ((made ++ take start rest) ++ (written ++ replicate (length (drop start (take nul rest)) - length written) 0)) ++ 0 ∷ [] =
-    n ∙ ap (λ t. ((made ++ take start rest) ++ (written ++ replicate (length t - length written) 0)) ++ 0 ∷ []) is in
-    subst (λ m. GoesOn placeholder prefix bytes m left) (sym same)
-    (subst (λ r. GoesOn placeholder prefix bytes (((made ++ take start rest) ++ (written ++ replicate (length (drop start (take nul rest)) - length written) 0)) ++ 0 ∷ []) r) (sym l) (goes_on_behind placeholder prefix bytes made rest written start nul h found low high zero none here))
+-- what is made has the length of the bytes
+pub length_stays : (placeholder prefix bytes made : List ℕ) → length prefix ≤ length placeholder → IsReplacedBinary placeholder prefix bytes made
+    → length made ≡ length bytes
+length_stays placeholder prefix bytes made low replaced = same_length placeholder prefix replaced.0 bytes made low replaced.1

@@ -9,6 +9,3 @@ mod text;
 pub use binary::replace_binary;
 pub use error::PrefixErr;
 pub use text::replace_text;
-
-#[cfg(test)]
-mod tests;
