@@ -99,6 +99,7 @@ impl Core {
         ensures applied { IfOk result (λ n. n ≡ applied events.now self.old) }
         ensures after { OnOk result (self.new ≡ after events.now self.old) }
         ensures only_memory { IfErr result (λ e. e ≡ CoreErr.Memory) }
+        ensures rules { Rules self.old → Rules self.new }
     {
         let mut count: usize = 0;
         for event in events {

@@ -8,4 +8,5 @@ loop-event-preserved c =
     record {
       count = omega arith;
       run = goes_on c.args.events.now c.loop-event.event-index c.args.self.now c.loop-event.self c.apply.new.self c.event-item.result (omega arith) c.event-item.is c.loop-event.invariant.run told.was_enabled told.ok;
+      rules = λ r. told.rules (c.loop-event.invariant.rules r);
     }
