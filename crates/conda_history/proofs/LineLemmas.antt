@@ -25,10 +25,7 @@ IsLine (Removed d) = IsDist d
 IsLine (Added d) = IsDist d
 
 option_map_some : {X Y : Type 0} (f : X → Y) (o : Option X) (y : Y) → option_map f o ≡ Some y → (x : X) × (o ≡ Some x) × (f x ≡ y)
-option_map_some f (Some x) y h = (x, refl, some_same (f x) y h)
-  where
-    some_same : {Y : Type 0} (a b : Y) → Some a ≡ Some b → a ≡ b
-    some_same a b g = cc
+option_map_some f (Some x) y h = (x, refl, cc)
 option_map_some f None y h = cc
 
 -- the test of a dist is its rule

@@ -4,10 +4,12 @@ use Rattle.std.specs.Prelude.{IsUtf8, MatchOption, MatchResult, Result, option_a
 use Rattle.std.specs.List.{AllByRecursion, after_first, before_first, position_or_len, flat_map, join_with_byte, onto_first, slice_split}
 use Rattle.std.specs.Str.{is_utf8}
 use Rattle.std.proofs.lemmas.Str.{IsUtf8-from_is_utf8, is_utf8-from_IsUtf8}
+use Rattle.std.proofs.lemmas.Grind.{flat_map-append}
 use Rattle.std.proofs.lemmas.List.{append-nil}
 use Rattle.std.proofs.lemmas.List.Elements.{All-from_get_or}
 use Rattle.std.proofs.lemmas.List.Sums.{fails_before_first}
 use Rattle.std.proofs.lemmas.List.Splits.{join_with_byte-slice_split, slice_split_first, slice_split_none, slice_split-cons_no, slice_split-cons_yes, slice_split_at}
+use Rattle.std.proofs.lemmas.Option.{same_Some}
 use Rattle.std.proofs.lemmas.Bool.{false≢true}
 use Rattle.conda_base.specs.Texts.{is_empty}
 use Rattle.conda_path.specs.Dists.{IsDist}
@@ -22,13 +24,6 @@ use Rattle.conda_history.specs.Stamps.{Exists, header_text}
 use Rattle.conda_history.specs.Blocks.{IsBlock, IsHistory, added_line, block_text, history_text, removed_line}
 use Rattle.conda_history.specs.Reading.{Fails, IsAtLine, blocks_of, closed, finished, history_of, is_newline, line_of, new_block, read_pieces, start, step, step_line, with_added, with_removed}
 use Rattle.conda_history.proofs.LineLemmas.{DistRule, IsLine, line_found, line_read, line_text, no_newline}
-
-some_same : {X : Type 0} (a b : X) → Some a ≡ Some b → a ≡ b
-some_same a b h = cc
-
-flat_append : {X : Type 0} (f : X → List ℕ) (xs ys : List X) → flat_map f (xs ++ ys) ≡ flat_map f xs ++ flat_map f ys
-flat_append f [] ys = refl
-flat_append f (x ∷ xs) ys = ap (λ r. f x ++ r) (flat_append f xs ys) ∙ sym (append_assoc (f x) (flat_map f xs) (flat_map f ys))
 
 all_append : {X : Type 0} (P : X → Type 0) (xs ys : List X) → AllByRecursion P xs → AllByRecursion P ys → AllByRecursion P (xs ++ ys)
 all_append P [] ys p q = q
@@ -49,7 +44,7 @@ Blocks m = closed m.done m.current
 
 -- one more block at the end
 text_end : (bs : List Block) (b : Block) → history_text (bs ++ b ∷ []) ≡ history_text bs ++ block_text b
-text_end bs b = flat_append block_text bs (b ∷ []) ∙ ap (λ r. history_text bs ++ r) (append-nil (block_text b))
+text_end bs b = flat_map-append block_text bs (b ∷ []) ∙ ap (λ r. history_text bs ++ r) (append-nil (block_text b))
 
 abbrev made : List Block → Option Block → Made
 made done current = record { done = done; current = current }
@@ -58,7 +53,7 @@ made done current = record { done = done; current = current }
 longer_removed : (b : Block) (d : List ℕ) → b.added ≡ [] → block_text (record b { removed = b.removed ++ d ∷ [] }) ≡ block_text b ++ (45 ∷ d ++ 10 ∷ [])
 longer_removed b d e =
     let longer : flat_map removed_line (b.removed ++ d ∷ []) ≡ flat_map removed_line b.removed ++ (45 ∷ d ++ 10 ∷ []) =
-    flat_append removed_line b.removed (d ∷ []) ∙ ap (λ r. flat_map removed_line b.removed ++ r) (append-nil (45 ∷ d ++ 10 ∷ []))
+    flat_map-append removed_line b.removed (d ∷ []) ∙ ap (λ r. flat_map removed_line b.removed ++ r) (append-nil (45 ∷ d ++ 10 ∷ []))
     in
     let none : flat_map added_line b.added ≡ [] = ap (flat_map added_line) e in
     rw (longer, none) (regroup (header_text b.stamp) (flat_map removed_line b.removed) (45 ∷ d ++ 10 ∷ []))
@@ -69,7 +64,7 @@ longer_removed b d e =
 longer_added : (b : Block) (d : List ℕ) → block_text (record b { added = b.added ++ d ∷ [] }) ≡ block_text b ++ (43 ∷ d ++ 10 ∷ [])
 longer_added b d =
     let longer : flat_map added_line (b.added ++ d ∷ []) ≡ flat_map added_line b.added ++ (43 ∷ d ++ 10 ∷ []) =
-    flat_append added_line b.added (d ∷ []) ∙ ap (λ r. flat_map added_line b.added ++ r) (append-nil (43 ∷ d ++ 10 ∷ []))
+    flat_map-append added_line b.added (d ∷ []) ∙ ap (λ r. flat_map added_line b.added ++ r) (append-nil (43 ∷ d ++ 10 ∷ []))
     in
     rw longer (regroup (header_text b.stamp) (flat_map removed_line b.removed) (flat_map added_line b.added) (43 ∷ d ++ 10 ∷ []))
   where
@@ -95,7 +90,7 @@ is_empty_of (x ∷ xs) h = absurd (false≢true h)
 
 grows_header : (m new : Made) (s : Stamp) → step m (Header s) ≡ Some new → Exists s → AllByRecursion IsBlock (Blocks m) → Grows m new (Header s)
 unfolding step
-grows_header m new s h e g = subst (λ n. Grows m n (Header s)) (some_same (made (Blocks m) (Some (new_block s))) new h) (record {
+grows_header m new s h e g = subst (λ n. Grows m n (Header s)) (same_Some (made (Blocks m) (Some (new_block s))) new h) (record {
   text = text_end (Blocks m) (new_block s);
   blocks = all_append IsBlock (Blocks m) (new_block s ∷ []) g (record { stamp = e; removed = tt; added = tt; signed = refl }, tt);
 })
@@ -110,7 +105,7 @@ grows_removed m new d h e g = by m.current h refl
         let g' : AllByRecursion IsBlock (m.done ++ b ∷ []) = subst (λ c. AllByRecursion IsBlock (closed m.done c)) q g in
         let old : history_text (Blocks m) ≡ history_text (m.done ++ b ∷ []) = ap (λ c. history_text (closed m.done c)) q in
         let c = record b { removed = b.removed ++ d ∷ [] } in
-        subst (λ n. Grows m n (Removed d)) (some_same (made m.done (Some c)) new k) (record {
+        subst (λ n. Grows m n (Removed d)) (same_Some (made m.done (Some c)) new k) (record {
           text = grown m.done b c (45 ∷ d ++ 10 ∷ []) (longer_removed b d (is_empty_of b.added z)) ∙ ap (λ t. t ++ (45 ∷ d ++ 10 ∷ [])) (sym old);
           blocks = replaced m.done b c g' (λ i. record { stamp = i.stamp; removed = all_append IsDist b.removed (d ∷ []) i.removed (e, tt); added = i.added; signed = i.signed });
         })
@@ -130,7 +125,7 @@ grows_added m new d h e g = by m.current h refl
         let g' : AllByRecursion IsBlock (m.done ++ b ∷ []) = subst (λ c. AllByRecursion IsBlock (closed m.done c)) q g in
         let old : history_text (Blocks m) ≡ history_text (m.done ++ b ∷ []) = ap (λ c. history_text (closed m.done c)) q in
         let c = record b { added = b.added ++ d ∷ [] } in
-        subst (λ n. Grows m n (Added d)) (some_same (made m.done (Some c)) new k) (record {
+        subst (λ n. Grows m n (Added d)) (same_Some (made m.done (Some c)) new k) (record {
           text = grown m.done b c (43 ∷ d ++ 10 ∷ []) (longer_added b d) ∙ ap (λ t. t ++ (43 ∷ d ++ 10 ∷ [])) (sym old);
           blocks = replaced m.done b c g' (λ i. record { stamp = i.stamp; removed = i.removed; added = all_append IsDist b.added (d ∷ []) i.added (e, tt); signed = i.signed });
         })
@@ -161,7 +156,7 @@ module _ (rule : DistRule) where
     where
       by : (v : Bool) → is_empty piece ≡ v → cond v (Some (Blocks m)) None ≡ Some bs → (history_text bs ≡ history_text (Blocks m) ++ piece) × AllByRecursion IsBlock bs
       by true e k =
-          let same : Blocks m ≡ bs = some_same (Blocks m) bs k in
+          let same : Blocks m ≡ bs = same_Some (Blocks m) bs k in
           (ap history_text (sym same) ∙ sym (append-nil (history_text (Blocks m))) ∙ ap (λ p. history_text (Blocks m) ++ p) (sym (is_empty_of piece e)), subst (AllByRecursion IsBlock) same g)
       by false e k = cc
   found_pieces m (piece ∷ next ∷ more) bs g h =
@@ -251,14 +246,14 @@ module _ (rule : DistRule) where
   read_as bytes text blocks e i = ap blocks_of (e ∙ i.text) ∙ blocks_read blocks i.blocks_are
 
   pub only_these : (bytes text : List ℕ) (bs : List Block) → text ≡ bytes → blocks_of text ≡ Some bs → (blocks : List Block) → IsHistory bytes blocks → bs ≡ blocks
-  only_these bytes text bs e h blocks i = some_same bs blocks (sym h ∙ read_as bytes text blocks e i)
+  only_these bytes text bs e h blocks i = same_Some bs blocks (sym h ∙ read_as bytes text blocks e i)
 
   pub only_memory : (bytes text : List ℕ) (e : HistoryErr) → text ≡ bytes → Fails e (blocks_of text) → (blocks : List Block) → IsHistory bytes blocks → e ≡ Memory
   only_memory bytes text (BadHistory line) q f blocks i = absurd (let a : None ≡ Some blocks = sym f.1 ∙ read_as bytes text blocks q i in cc)
   only_memory bytes text Memory q f blocks i = refl
 
   pub one_history : (bytes : List ℕ) (first second : List Block) → IsHistory bytes first → IsHistory bytes second → first ≡ second
-  one_history bytes first second a b = some_same first second (sym (read_as bytes bytes first refl a) ∙ read_as bytes bytes second refl b)
+  one_history bytes first second a b = same_Some first second (sym (read_as bytes bytes first refl a) ∙ read_as bytes bytes second refl b)
 
 pub first_line : (o : Option (List Block)) (e : HistoryErr) → Fails e o → IsAtLine e 1
 first_line o (BadHistory line) f = f.0
