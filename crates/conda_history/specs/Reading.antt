@@ -1,5 +1,5 @@
 -- The reader as a function: the lines in their order, and the blocks so far.
-use Rattle.std.specs.Prelude.{◌≡◌, ℕ, Bool, true, false, ◌==◌, if◌then◌else◌, List, [], ◌∷◌, ◌++◌, Option, Some, None, option_map, option_and_then}
+use Rattle.std.specs.Prelude.{◌≡◌, ℕ, Bool, false, ◌==◌, if◌then◌else◌, List, [], ◌∷◌, ◌++◌, MatchResult, Option, Some, None, Result, option_map, option_and_then}
 use Rattle.std.specs.List.{slice_split}
 use Rattle.std.specs.Str.{is_utf8}
 use Rattle.conda_base.specs.Signs.{dash, newline, plus}
@@ -18,6 +18,10 @@ use Rattle.conda_history.specs.Stamps.{stamp_of}
 abbrev pub Fails : {X : Type 0} → HistoryErr → Option X → Type 0
 Fails (BadHistory line) answer = (line ≡ 1) × (answer ≡ None)
 Fails Memory answer = Unit {0}
+
+-- the answer is the one that there is, or its want, or memory ran out
+abbrev pub Answers : {X : Type 0} → Result X HistoryErr → Option X → Type 0
+Answers result answer = MatchResult result (λ x. answer ≡ Some x) (λ e. Fails e answer)
 
 -- the error names this line, or memory ran out
 abbrev pub IsAtLine : HistoryErr → ℕ → Type 0

@@ -20,7 +20,7 @@ pub const BAD: HistoryErr = HistoryErr::BadHistory { line: 1 };
 
 /// Reads the dist behind a sign.
 fn read_dist(alloc: Global, text: &str) -> Result<Dist, HistoryErr>
-    ensures { MatchResult result (λ dist. reading.dist_of text.now ≡ Some dist) (λ e. reading.Fails e (reading.dist_of text.now)) }
+    ensures { reading.Answers result (reading.dist_of text.now) }
 {
     match Dist::read(alloc, text) {
         Ok(dist) => Ok(dist),
@@ -45,7 +45,7 @@ fn behind_plus(text: &str) -> Option<&str>
 
 /// Reads what stands behind a `-`.
 fn read_removed(alloc: Global, text: &str) -> Result<Line, HistoryErr>
-    ensures { MatchResult result (λ line. reading.removed_of text.now ≡ Some line) (λ e. reading.Fails e (reading.removed_of text.now)) }
+    ensures { reading.Answers result (reading.removed_of text.now) }
 {
     match read_dist(alloc, text) {
         Ok(dist) => Ok(Line::Removed(dist)),
@@ -55,7 +55,7 @@ fn read_removed(alloc: Global, text: &str) -> Result<Line, HistoryErr>
 
 /// Reads what stands behind a `+`.
 fn read_added(alloc: Global, text: &str) -> Result<Line, HistoryErr>
-    ensures { MatchResult result (λ line. reading.added_of text.now ≡ Some line) (λ e. reading.Fails e (reading.added_of text.now)) }
+    ensures { reading.Answers result (reading.added_of text.now) }
 {
     match read_dist(alloc, text) {
         Ok(dist) => Ok(Line::Added(dist)),
@@ -65,7 +65,7 @@ fn read_added(alloc: Global, text: &str) -> Result<Line, HistoryErr>
 
 /// Reads a line without a sign.
 fn read_plain(text: &str) -> Result<Line, HistoryErr>
-    ensures { MatchResult result (λ line. reading.header_of text.now ≡ Some line) (λ e. reading.Fails e (reading.header_of text.now)) }
+    ensures { reading.Answers result (reading.header_of text.now) }
 {
     match read_header(text.as_bytes()) {
         Some(stamp) => Ok(Line::Header(stamp)),
@@ -75,7 +75,7 @@ fn read_plain(text: &str) -> Result<Line, HistoryErr>
 
 /// Reads a line, which is given without its newline.
 pub fn read_line(alloc: Global, text: &str) -> Result<Line, HistoryErr>
-    ensures { MatchResult result (λ line. reading.line_of text.now ≡ Some line) (λ e. reading.Fails e (reading.line_of text.now)) }
+    ensures { reading.Answers result (reading.line_of text.now) }
 {
     if let Some(rest) = behind_minus(text) {
         return read_removed(alloc, rest);

@@ -78,7 +78,7 @@ fn close(done: Rows<Block>, current: Option<Block>) -> Result<Rows<Block>, Histo
 /// The blocks with what one more line says.
 #[tactic(auto, unfolding(crate::specs::Reading::step))]
 fn take(alloc: Global, made: Made, line: Line) -> Result<Made, HistoryErr>
-    ensures { MatchResult result (λ next. reading.step made line ≡ Some next) (λ e. reading.Fails e (reading.step made line)) }
+    ensures { reading.Answers result (reading.step made line) }
 {
     let Made { done, mut current } = made;
     match line {
@@ -102,7 +102,7 @@ fn take(alloc: Global, made: Made, line: Line) -> Result<Made, HistoryErr>
 
 /// The blocks with one more line, which is given without its newline.
 fn with_line(alloc: Global, made: Made, text: &str) -> Result<Made, HistoryErr>
-    ensures { MatchResult result (λ next. reading.step_line made text.now ≡ Some next) (λ e. reading.Fails e (reading.step_line made text.now)) }
+    ensures { reading.Answers result (reading.step_line made text.now) }
 {
     match read_line(alloc, text) {
         Ok(line) => take(alloc, made, line),
@@ -121,7 +121,7 @@ fn next_line(text: &str) -> Option<(&str, &str)>
 
 /// The blocks, where nothing stands behind the last newline.
 fn finish(made: Made, rest: &str) -> Result<Rows<Block>, HistoryErr>
-    ensures { MatchResult result (λ blocks. reading.finished made rest.now ≡ Some blocks) (λ e. reading.Fails e (reading.finished made rest.now)) }
+    ensures { reading.Answers result (reading.finished made rest.now) }
 {
     if !rest.is_empty() {
         return Err(BAD);
@@ -132,7 +132,7 @@ fn finish(made: Made, rest: &str) -> Result<Rows<Block>, HistoryErr>
 
 /// The blocks of a text.
 fn blocks_of(alloc: Global, text: &str) -> Result<Rows<Block>, HistoryErr>
-    ensures { MatchResult result (λ blocks. reading.blocks_of text.now ≡ Some blocks) (λ e. reading.Fails e (reading.blocks_of text.now)) }
+    ensures { reading.Answers result (reading.blocks_of text.now) }
 {
     let mut made = Made {
         done: Rows::new(alloc),
