@@ -1,5 +1,5 @@
 -- The slot rule: what ties the words of the slots to the lists of the seats. This project's own.
-use Rattle.std.specs.Prelude.{◌≡◌, ◌↔◌, ◌||◌, IsTrue, count_by, ℕ, ◌+◌, ◌≤◌, Bool, false, ◌==◌, if◌then◌else◌, List, [], ◌∷◌, length, sum_by, slice_get, Some}
+use Rattle.std.specs.Prelude.{◌≡◌, ◌↔◌, ◌||◌, IsTrue, count_by, ℕ, ◌+◌, ◌≤◌, Bool, false, ◌==◌, if◌then◌else◌, List, length, sum_by, slice_get, Some}
 use Rattle.std.specs.List.{list_any}
 use Rattle.conda_core.specs.declared.word.SlotState.TheVariants.{Busy, Ready}
 use Rattle.conda_core.specs.declared.word.Word.{Word}

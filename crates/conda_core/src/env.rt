@@ -78,7 +78,8 @@ pub(crate) fn last_set_has(revs: &Rows<Rows<u32>>, slot: u32) -> bool
     }
 }
 
-/// Whether an event on the environment is enabled, among so many seats, with these pins of its own seat.
+/// Whether an event on the environment is enabled, among so many seats, with these pins of its own
+/// seat.
 pub(crate) fn env_enabled(seats: usize, pins: &[u32], env: &CoreEnv, event: &Event) -> bool
     ensures { result ≡ env_enabled seats pins.now env.now event.now }
 {
@@ -93,7 +94,8 @@ pub(crate) fn env_enabled(seats: usize, pins: &[u32], env: &CoreEnv, event: &Eve
     }
 }
 
-/// Makes of the environment what an event makes of it that is enabled. It only lacks memory before it changes any.
+/// Makes of the environment what an event makes of it that is enabled. It only lacks memory before
+/// it changes any.
 pub(crate) fn change_env(alloc: Global, env: &mut CoreEnv, event: &Event) -> Result<(), AllocError>
     ensures ok { OnOk result (env.new ≡ env_effect env.old event.now) }
     ensures err { OnErr result (env.new ≡ env.old) }

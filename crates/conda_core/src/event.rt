@@ -2,7 +2,8 @@ use crate::word::SlotOp;
 use conda_base::{Copied, Rows};
 use std::alloc::AllocError;
 
-/// One step of one actor, which can't be divided. Slots, seats and environments go by their numbers from 0.
+/// One step of one actor, which can't be divided. Slots, seats and environments go by their numbers
+/// from 0.
 #[derive(Clone, Debug, PartialEq, Eq, Drop)]
 pub enum Event {
     /// A seat makes a step on a slot.

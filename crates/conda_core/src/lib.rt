@@ -1,5 +1,6 @@
-//! The shared cache and its environments as a machine: words, seats and locks as plain data, and events that change
-//! them. It has no thread and no device. Each event is one step that can't be divided, of one actor.
+//! The shared cache and its environments as a machine: words, seats and locks as plain data, and
+//! events that change them. It has no thread and no device. Each event is one step that can't be
+//! divided, of one actor.
 #![tactic(auto)]
 
 mod env;

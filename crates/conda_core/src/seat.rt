@@ -83,7 +83,8 @@ fn take_out(alloc: Global, list: &mut Rows<u32>, slot: u32)
     *list = Rows::from_vec(items);
 }
 
-/// Makes of the lists what a step makes of them that found this word. It only lacks memory before it changes any.
+/// Makes of the lists what a step makes of them that found this word. It only lacks memory before
+/// it changes any.
 pub(crate) fn step_view(
     alloc: Global,
     view: &mut View,

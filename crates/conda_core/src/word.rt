@@ -52,9 +52,10 @@ impl Copied for Word {
     }
 }
 
-/// The word after a step. None where a try or a publish would count past `MAX_COUNT`, where a back or an unpin meets
-/// count 0, where an unpin meets a slot that isn't Ready, and where a publish or an abandon meets one that isn't Busy.
-/// A claim changes only Empty with count 0, a take only Ready with count 0. It takes no memory.
+/// The word after a step. None where a try or a publish would count past `MAX_COUNT`, where a back
+/// or an unpin meets count 0, where an unpin meets a slot that isn't Ready, and where a publish or
+/// an abandon meets one that isn't Busy. A claim changes only Empty with count 0, a take only Ready
+/// with count 0. It takes no memory.
 pub fn slot_next(word: Word, op: SlotOp) -> Option<Word>
     ensures { result ≡ next_word word op }
 {

@@ -31,14 +31,16 @@ fn read_dist(alloc: Global, text: &str) -> Result<Dist, HistoryErr>
 
 /// What stands behind a `-` at the front.
 fn behind_minus(text: &str) -> Option<&str>
-    ensures { MatchOption result ((rest : List ℕ) → text.now ≢ dash ∷ rest) (λ rest. text.now ≡ dash ∷ rest.now) }
+    ensures { MatchOption result ((rest : List ℕ) → text.now ≢ dash ∷ rest)
+        (λ rest. text.now ≡ dash ∷ rest.now) }
 {
     text.strip_prefix('-')
 }
 
 /// What stands behind a `+` at the front.
 fn behind_plus(text: &str) -> Option<&str>
-    ensures { MatchOption result ((rest : List ℕ) → text.now ≢ plus ∷ rest) (λ rest. text.now ≡ plus ∷ rest.now) }
+    ensures { MatchOption result ((rest : List ℕ) → text.now ≢ plus ∷ rest)
+        (λ rest. text.now ≡ plus ∷ rest.now) }
 {
     text.strip_prefix('+')
 }

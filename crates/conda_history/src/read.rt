@@ -32,7 +32,8 @@ fn new_block(alloc: Global, stamp: Stamp) -> Block
 
 /// Puts a dist into the open block, among the removed ones.
 fn remove(current: &mut Option<Block>, dist: Dist) -> Result<(), HistoryErr>
-    ensures { MatchResult result (λ _. reading.with_removed current.old dist ≡ Some current.new) (λ e. reading.Fails e (reading.with_removed current.old dist)) }
+    ensures { MatchResult result (λ _. reading.with_removed current.old dist ≡ Some current.new)
+        (λ e. reading.Fails e (reading.with_removed current.old dist)) }
 {
     match current {
         Some(block) => {
@@ -50,7 +51,8 @@ fn remove(current: &mut Option<Block>, dist: Dist) -> Result<(), HistoryErr>
 
 /// Puts a dist into the open block, among the added ones.
 fn add(current: &mut Option<Block>, dist: Dist) -> Result<(), HistoryErr>
-    ensures { MatchResult result (λ _. reading.with_added current.old dist ≡ Some current.new) (λ e. reading.Fails e (reading.with_added current.old dist)) }
+    ensures { MatchResult result (λ _. reading.with_added current.old dist ≡ Some current.new)
+        (λ e. reading.Fails e (reading.with_added current.old dist)) }
 {
     match current {
         Some(block) => match block.added.push(dist) {
@@ -63,7 +65,8 @@ fn add(current: &mut Option<Block>, dist: Dist) -> Result<(), HistoryErr>
 
 /// The blocks with the open one at their end.
 fn close(done: Rows<Block>, current: Option<Block>) -> Result<Rows<Block>, HistoryErr>
-    ensures { MatchResult result (λ blocks. blocks ≡ reading.closed done current) (λ e. e ≡ HistoryErr.Memory) }
+    ensures { MatchResult result (λ blocks. blocks ≡ reading.closed done current)
+        (λ e. e ≡ HistoryErr.Memory) }
 {
     let mut blocks = done;
     if let Some(block) = current {
@@ -112,7 +115,9 @@ fn with_line(alloc: Global, made: Made, text: &str) -> Result<Made, HistoryErr>
 
 /// The first line and what stands behind its newline.
 fn next_line(text: &str) -> Option<(&str, &str)>
-    ensures line { MatchOption result (slice_split reading.is_newline text.now ≡ text.now ∷ []) (λ cut. slice_split reading.is_newline text.now ≡ cut.0.now ∷ slice_split reading.is_newline cut.1.now) }
+    ensures line { MatchOption result (slice_split reading.is_newline text.now ≡ text.now ∷ [])
+        (λ cut. slice_split reading.is_newline text.now
+        ≡ cut.0.now ∷ slice_split reading.is_newline cut.1.now) }
     ensures shorter { IfSome result (λ cut. length cut.1.now < length text.now) }
     ensures utf8 { IfSome result (λ cut. IsUtf8 cut.0.now × IsUtf8 cut.1.now) }
 {
@@ -151,7 +156,8 @@ fn blocks_of(alloc: Global, text: &str) -> Result<Rows<Block>, HistoryErr>
 
 /// The text that the bytes are, if they are UTF-8.
 fn text_of(bytes: &[u8]) -> Option<&str>
-    ensures { MatchOption result (¬ IsUtf8 bytes.now) (λ text. (text.now ≡ bytes.now) × IsUtf8 bytes.now) }
+    ensures { MatchOption result (¬ IsUtf8 bytes.now)
+        (λ text. (text.now ≡ bytes.now) × IsUtf8 bytes.now) }
 {
     match str::from_utf8(bytes) {
         Ok(text) => Some(text),
@@ -160,16 +166,19 @@ fn text_of(bytes: &[u8]) -> Option<&str>
 }
 
 impl History {
-    /// Reads the text of a history: blocks of a header line `==> YYYY-MM-DD HH:MM:SS <==`, then a line `-dist` for
-    /// each dist that left, then a line `+dist` for each that joined. Each line ends with a newline; nothing is
-    /// stripped. The empty text has no block.
+    /// Reads the text of a history: blocks of a header line `==> YYYY-MM-DD HH:MM:SS <==`, then a
+    /// line `-dist` for each dist that left, then a line `+dist` for each that joined. Each line
+    /// ends with a newline; nothing is stripped. The empty text has no block.
     ///
     /// Every other text is `BadHistory` at line 1, also one that isn't UTF-8.
     pub fn read(alloc: Global, bytes: &[u8]) -> Result<History, HistoryErr>
         ensures found { IfOk result (λ history. IsHistory bytes.now history.blocks) }
-        ensures only { (blocks : List Block) → IsHistory bytes.now blocks → MatchResult result (λ history. history.blocks ≡ blocks) (λ e. e ≡ HistoryErr.Memory) }
+        ensures only { (blocks : List Block) → IsHistory bytes.now blocks
+            → MatchResult result (λ history. history.blocks ≡ blocks) (λ e. e ≡ HistoryErr.Memory) }
         ensures line { IfErr result (λ e. reading.IsAtLine e 1) }
-        ensures exact { MatchResult result (λ history. reading.history_of bytes.now ≡ Some history.blocks) (λ e. reading.Fails e (reading.history_of bytes.now)) }
+        ensures exact { MatchResult result
+            (λ history. reading.history_of bytes.now ≡ Some history.blocks)
+            (λ e. reading.Fails e (reading.history_of bytes.now)) }
     {
         dist_laws();
         let Some(text) = text_of(bytes) else {
@@ -184,7 +193,8 @@ impl History {
 
 /// Bytes are the text of one history at most.
 pub fn history_laws()
-    ensures one { (bytes : List ℕ) (first second : List Block) → IsHistory bytes first → IsHistory bytes second → first ≡ second }
+    ensures one { (bytes : List ℕ) (first second : List Block) → IsHistory bytes first
+        → IsHistory bytes second → first ≡ second }
 {
     dist_laws();
 }

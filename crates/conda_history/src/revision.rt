@@ -11,8 +11,8 @@ pub struct History {
 
 /// What one revision changed.
 ///
-/// `removed` left the set and `added` joined it, each in the order of the text. In a block that is whole, `added`
-/// is the whole set; no text that is read now has such a block.
+/// `removed` left the set and `added` joined it, each in the order of the text. In a block that is
+/// whole, `added` is the whole set; no text that is read now has such a block.
 #[derive(Clone, Debug, PartialEq, Eq, Drop)]
 pub struct Block {
     pub stamp: Stamp,

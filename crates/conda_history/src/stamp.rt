@@ -8,7 +8,8 @@ use conda_base::Copied;
 use jiff::civil::DateTime;
 use std::alloc::AllocError;
 
-/// A moment in UTC, to the second: a date of the years 0 to 9999 on the calendar of ISO 8601 and a time of day.
+/// A moment in UTC, to the second: a date of the years 0 to 9999 on the calendar of ISO 8601 and a
+/// time of day.
 #[derive(Clone, Copy, Debug, PartialEq, Eq, PartialOrd, Ord, Hash)]
 pub struct Stamp {
     pub year: u16,

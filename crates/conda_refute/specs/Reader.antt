@@ -4,10 +4,9 @@ use Rattle.conda_base.specs.Reads.{Read}
 use Rattle.conda_base.specs.Signs.{dash, digit_zero, newline, space}
 use Rattle.conda_base.specs.Texts.{is_empty}
 use Rattle.conda_refute.specs.LogText.{is_hint, is_literal, letter_d, letter_i}
-use Rattle.conda_refute.specs.declared.log.Step.{Step}
 use Rattle.conda_refute.specs.declared.log.Log.{Log}
 use Rattle.conda_refute.specs.declared.log.RefuteErr.{RefuteErr}
-use Rattle.conda_refute.specs.declared.log.RefuteErr.TheVariants.{BadLog, Memory}
+use Rattle.conda_refute.specs.declared.log.RefuteErr.TheVariants.{BadLog}
 use Rattle.conda_refute.specs.declared.reader.Part.{Part}
 use Rattle.conda_refute.specs.declared.reader.Part.TheVariants.{Input, Literals, Hints}
 use Rattle.conda_refute.specs.declared.reader.Place.{Place}

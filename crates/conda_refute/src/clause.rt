@@ -5,8 +5,8 @@ use conda_base::{Copied, Rows};
 use std::alloc::{AllocError, Global};
 use std::marker::Model;
 
-/// A clause: a list of literals, of which one has to be true. The literal `n` is variable n, and `-n` its opposite; none is 0.
-/// Contracts see the list.
+/// A clause: a list of literals, of which one has to be true. The literal `n` is variable n, and
+/// `-n` its opposite; none is 0. Contracts see the list.
 #[derive(Clone, Debug, PartialEq, Eq, Drop)]
 pub struct Clause {
     items: Rows<i32>,

@@ -1,4 +1,5 @@
-//! Refutations: a log of steps that shows that no assignment makes all of its input clauses true, and the check of such a log.
+//! Refutations: a log of steps that shows that no assignment makes all of its input clauses true,
+//! and the check of such a log.
 #![tactic(auto)]
 
 mod checking;

@@ -110,7 +110,8 @@ fn ended(reading: Reading) -> Result<Log, RefuteErr>
 /// Reads one more byte. False: it doesn't fit, and nothing changes.
 fn read_byte(alloc: Global, reading: &mut Reading, byte: u8) -> Result<bool, AllocError>
     requires { reading.old.line + 1 < 2 ^ 64 }
-    ensures read { IfOk result (λ fits. byte_read reading.old byte ≡ cond fits (Some reading.new) None) }
+    ensures read { IfOk result (λ fits. byte_read reading.old byte
+        ≡ cond fits (Some reading.new) None) }
     ensures line { IfOk result (λ fits. reading.new.line ≤ reading.old.line + 1) }
     ensures same { IfOk result (λ fits. fits ≡ false → reading.new.line ≡ reading.old.line) }
 {
