@@ -1,5 +1,5 @@
 -- The slot rule: what ties the words of the slots to the lists of the seats. This project's own.
-use Rattle.std.specs.Prelude.{◌≡◌, ◌↔◌, ◌||◌, IsTrue, count_by, ℕ, ◌+◌, ◌≤◌, Bool, false, ◌==◌, if◌then◌else◌, List, [], ◌∷◌, length, sum_by, slice_get, Some}
+use Rattle.std.specs.Prelude.{◌≡◌, ◌↔◌, ◌||◌, IsTrue, count_by, ℕ, ◌+◌, ◌≤◌, Bool, false, ◌==◌, if◌then◌else◌, List, length, sum_by, slice_get, Some}
 use Rattle.std.specs.List.{list_any}
 use Rattle.conda_core.specs.declared.word.SlotState.TheVariants.{Busy, Ready}
 use Rattle.conda_core.specs.declared.word.Word.{Word}
@@ -12,8 +12,7 @@ has i xs = list_any (λ x. x == i) xs
 
 -- how often the slot is in the list
 abbrev pub times : ℕ → List ℕ → ℕ
-times i [] = 0
-times i (x ∷ xs) = (if x == i then 1 else 0) + times i xs
+times i xs = count_by (λ x. x == i) xs
 
 -- how often a seat has the slot in `pins`
 abbrev pub pinned : ℕ → View → ℕ

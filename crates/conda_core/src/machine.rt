@@ -27,8 +27,9 @@ pub enum CoreErr {
     Memory,
 }
 
-/// The words of the slots, the lists of the seats and the environments. Seat `e` belongs to environment `e`.
-#[derive(Debug, Drop)]
+/// The words of the slots, the lists of the seats and the environments. Seat `e` belongs to
+/// environment `e`.
+#[derive(Clone, Debug, PartialEq, Eq, Drop)]
 pub struct Core {
     pub slots: Rows<Word>,
     pub seats: Rows<View>,
@@ -36,25 +37,15 @@ pub struct Core {
 }
 
 impl Copied for Core {
-    fn copied(&self, alloc: Global) -> Result<Core, AllocError> {
-        self.copy(alloc)
+    fn copy(&self) -> Result<Core, AllocError> {
+        self.clone()
     }
 }
 
 impl Core {
-    /// An equal core.
-    pub fn copy(&self, alloc: Global) -> Result<Core, AllocError>
-        ensures { IfOk result (λ core. core ≡ self.now) }
-    {
-        Ok(Core {
-            slots: self.slots.copy(alloc)?,
-            seats: self.seats.copy(alloc)?,
-            envs: self.envs.copy(alloc)?,
-        })
-    }
-
-    /// A core with a slot for each element of `ready`, Ready where it is true and else Empty. All counts are 0, all
-    /// lists empty, and each environment has no owner, no revision and an empty tree.
+    /// A core with a slot for each element of `ready`, Ready where it is true and else Empty. All
+    /// counts are 0, all lists empty, and each environment has no owner, no revision and an empty
+    /// tree.
     pub fn make(alloc: Global, ready: &[bool], seats: u32, envs: u32) -> Result<Core, CoreErr>
         requires { envs ≤ seats }
         ensures made { IfOk result (λ core. core ≡ new_core ready.now seats envs) }
@@ -71,7 +62,8 @@ impl Core {
     pub fn apply(&mut self, alloc: Global, event: &Event) -> Result<(), CoreErr>
         ensures was_enabled { OnOk result (enabled self.old event.now ≡ true) }
         ensures ok { OnOk result (self.new ≡ effect self.old event.now) }
-        ensures not_enabled { (result ≡ Err CoreErr.NotEnabled) ↔ (enabled self.old event.now ≡ false) }
+        ensures not_enabled { (result ≡ Err CoreErr.NotEnabled)
+            ↔ (enabled self.old event.now ≡ false) }
         ensures memory { result ≡ Err CoreErr.Memory → enabled self.old event.now ≡ true }
         ensures err { OnErr result (self.new ≡ self.old) }
         ensures rules { Rules self.old → Rules self.new }
@@ -88,13 +80,28 @@ impl Core {
         }
     }
 
-    /// Applies events up to the first that isn't enabled, and answers how many it applied. Where memory is lacking, a
-    /// beginning of them was applied.
+    /// Applies events up to the first that isn't enabled, and answers how many it applied. Where
+    /// memory is lacking, the core is as before.
     pub fn run(&mut self, alloc: Global, events: &[Event]) -> Result<usize, CoreErr>
         ensures applied { IfOk result (λ n. n ≡ applied events.now self.old) }
         ensures after { OnOk result (self.new ≡ after events.now self.old) }
         ensures only_memory { IfErr result (λ e. e ≡ CoreErr.Memory) }
-        ensures memory { OnErr result ((n : ℕ) × (n < applied events.now self.old) × (self.new ≡ after (take n events.now) self.old)) }
+        ensures unchanged { OnErr result (self.new ≡ self.old) }
+        ensures rules { Rules self.old → Rules self.new }
+    {
+        let mut core = self.copy()?;
+        let count = core.apply_all(alloc, events)?;
+        *self = core;
+        Ok(count)
+    }
+}
+
+impl Core {
+    /// As `run`; where memory is lacking, some of the events were applied.
+    fn apply_all(&mut self, alloc: Global, events: &[Event]) -> Result<usize, CoreErr>
+        ensures applied { IfOk result (λ n. n ≡ applied events.now self.old) }
+        ensures after { OnOk result (self.new ≡ after events.now self.old) }
+        ensures only_memory { IfErr result (λ e. e ≡ CoreErr.Memory) }
         ensures rules { Rules self.old → Rules self.new }
     {
         let mut count: usize = 0;
@@ -107,12 +114,11 @@ impl Core {
         }
         Ok(count)
     }
-}
 
-impl Core {
     /// Applies a step on a slot.
     fn slot_event(&mut self, alloc: Global, seat: u32, slot: u32, op: SlotOp) -> Result<(), CoreErr>
-        ensures { Applies (enabled self.old (Event.Slot seat slot op)) (effect self.old (Event.Slot seat slot op)) self.old self.new result }
+        ensures { Applies (enabled self.old (Event.Slot seat slot op))
+            (effect self.old (Event.Slot seat slot op)) self.old self.new result }
     {
         let slots = self.slots.as_slice();
         let seats = self.seats.as_slice();
@@ -129,7 +135,9 @@ impl Core {
 
     /// Applies an event on an environment.
     fn env_event(&mut self, alloc: Global, env: u32, event: &Event) -> Result<(), CoreErr>
-        ensures { Applies (env_event_enabled self.old.seats self.old.envs env event.now) (record self.old { envs = envs_after self.old.envs env event.now }) self.old self.new result }
+        ensures { Applies (env_event_enabled self.old.seats self.old.envs env event.now)
+            (record self.old { envs = envs_after self.old.envs env event.now })
+            self.old self.new result }
     {
         let seats = self.seats.as_slice();
         let envs = self.envs.as_slice();
@@ -221,7 +229,9 @@ fn found_step(
 ) -> Option<(Word, Word)>
     ensures some { IfSome result (IsStep op slots.now slot) }
     ensures seat { OnSome result (seat < length seats.now) }
-    ensures enabled { is_some result ≡ step_enabled op slot (last_set_of envs.now seat) (slice_get seats.now seat) (slice_get slots.now slot) }
+    ensures enabled { is_some result
+        ≡ step_enabled op slot (last_set_of envs.now seat)
+        (slice_get seats.now seat) (slice_get slots.now slot) }
 {
     let view = seats.get(seat as usize)?;
     let word = *slots.get(slot as usize)?;
@@ -252,7 +262,8 @@ fn step_seat(
     slot: u32,
 ) -> Result<(), AllocError>
     requires { seat < length seats.old }
-    ensures ok { OnOk result ((v : View) → slice_get seats.old seat ≡ Some v → seats.new ≡ slice_set seats.old seat (next_view word op slot v)) }
+    ensures ok { OnOk result ((v : View) → slice_get seats.old seat ≡ Some v
+        → seats.new ≡ slice_set seats.old seat (next_view word op slot v)) }
     ensures err { OnErr result (seats.new ≡ seats.old) }
 {
     let mut views = mem::replace(seats, Rows::new(alloc)).into_vec();
@@ -299,7 +310,8 @@ fn change_at(
     event: &Event,
 ) -> Result<(), AllocError>
     requires { number < length envs.old }
-    ensures ok { OnOk result ((e : CoreEnv) → slice_get envs.old number ≡ Some e → envs.new ≡ slice_set envs.old number (env_effect e event.now)) }
+    ensures ok { OnOk result ((e : CoreEnv) → slice_get envs.old number ≡ Some e
+        → envs.new ≡ slice_set envs.old number (env_effect e event.now)) }
     ensures err { OnErr result (envs.new ≡ envs.old) }
 {
     let mut items = mem::replace(envs, Rows::new(alloc)).into_vec();
@@ -312,11 +324,13 @@ fn change_at(
 pub fn every_run_keeps_the_rules()
     ensures start { (ready : List Bool) (seats envs : ℕ) → Rules (new_core ready seats envs) }
     ensures step { (c : Core) (e : Event) → Rules c → enabled c e ≡ true → Rules (effect c e) }
-    ensures run { (ready : List Bool) (seats envs : ℕ) (events : List Event) → Rules (after events (new_core ready seats envs)) }
+    ensures run { (ready : List Bool) (seats envs : ℕ) (events : List Event)
+        → Rules (after events (new_core ready seats envs)) }
 {}
 
-/// The slot rule, said of whether a view has a slot: the count of a word is the number of views that count on the slot, a
-/// slot is Busy exactly where one view has it in `busy`, and so on.
+/// The slot rule, said of whether a view has a slot: the count of a word is the number of views
+/// that count on the slot, a slot is Busy exactly where one view has it in `busy`, and so on.
 pub fn slot_rule_by_view()
-    ensures { (words : List Word) (views : List View) → SlotRule words views → SlotRuleByView words views }
+    ensures { (words : List Word) (views : List View) → SlotRule words views
+        → SlotRuleByView words views }
 {}

@@ -2,7 +2,7 @@ ghost use Rattle.std.specs.Prelude.{◌≡◌};
 ghost use Rattle.conda_core.specs.Word.{next_word, counted_more, counted_less, taken_from, is_free_in};
 
 use conda_base::Copied;
-use std::alloc::{AllocError, Global};
+use std::alloc::AllocError;
 
 /// The most that a word can count: a word is `4 * count + state` in 64 bits.
 pub const MAX_COUNT: u64 = (1 << 62) - 1;
@@ -46,24 +46,16 @@ pub struct Word {
     pub count: u64,
 }
 
-impl Word {
-    /// An equal word. It takes no memory.
-    pub fn copy(&self, _alloc: Global) -> Result<Word, AllocError>
-        ensures { result ≡ Ok self.now }
-    {
-        Ok(*self)
-    }
-}
-
 impl Copied for Word {
-    fn copied(&self, alloc: Global) -> Result<Word, AllocError> {
-        self.copy(alloc)
+    fn copy(&self) -> Result<Word, AllocError> {
+        self.clone()
     }
 }
 
-/// The word after a step. None where a try or a publish would count past `MAX_COUNT`, where a back or an unpin meets
-/// count 0, where an unpin meets a slot that isn't Ready, and where a publish or an abandon meets one that isn't Busy.
-/// A claim changes only Empty with count 0, a take only Ready with count 0. It takes no memory.
+/// The word after a step. None where a try or a publish would count past `MAX_COUNT`, where a back
+/// or an unpin meets count 0, where an unpin meets a slot that isn't Ready, and where a publish or
+/// an abandon meets one that isn't Busy. A claim changes only Empty with count 0, a take only Ready
+/// with count 0. It takes no memory.
 pub fn slot_next(word: Word, op: SlotOp) -> Option<Word>
     ensures { result ≡ next_word word op }
 {

@@ -1,7 +1,9 @@
 -- The reader as a function: the lines in their order, and the blocks so far.
-use Rattle.std.specs.Prelude.{◌≡◌, ℕ, Bool, true, false, ◌==◌, if◌then◌else◌, List, [], ◌∷◌, ◌++◌, Option, Some, None, option_map, option_and_then}
+use Rattle.std.specs.Prelude.{◌≡◌, ℕ, Bool, false, ◌==◌, if◌then◌else◌, List, [], ◌∷◌, ◌++◌, MatchResult, Option, Some, None, Result, option_map, option_and_then}
 use Rattle.std.specs.List.{slice_split}
 use Rattle.std.specs.Str.{is_utf8}
+use Rattle.conda_base.specs.Signs.{dash, newline, plus}
+use Rattle.conda_base.specs.Texts.{is_empty}
 use Rattle.conda_path.specs.Dists.{is_dist}
 use Rattle.conda_history.specs.declared.line.Line.{Line}
 use Rattle.conda_history.specs.declared.line.Line.TheVariants.{Header, Removed, Added}
@@ -16,6 +18,10 @@ use Rattle.conda_history.specs.Stamps.{stamp_of}
 abbrev pub Fails : {X : Type 0} → HistoryErr → Option X → Type 0
 Fails (BadHistory line) answer = (line ≡ 1) × (answer ≡ None)
 Fails Memory answer = Unit {0}
+
+-- the answer is the one that there is, or its want, or memory ran out
+abbrev pub Answers : {X : Type 0} → Result X HistoryErr → Option X → Type 0
+Answers result answer = MatchResult result (λ x. answer ≡ Some x) (λ e. Fails e answer)
 
 -- the error names this line, or memory ran out
 abbrev pub IsAtLine : HistoryErr → ℕ → Type 0
@@ -38,14 +44,10 @@ header_of text = option_map Header (stamp_of text)
 -- what a line says
 unfoldable pub line_of : List ℕ → Option Line
 line_of [] = None
-line_of (b ∷ rest) = if b == 45 then removed_of rest else (if b == 43 then added_of rest else header_of (b ∷ rest))
+line_of (b ∷ rest) = if b == dash then removed_of rest else (if b == plus then added_of rest else header_of (b ∷ rest))
 
 abbrev pub new_block : Stamp → Block
 new_block stamp = record { stamp = stamp; removed = []; added = []; whole = false }
-
-abbrev pub is_empty : {X : Type 0} → List X → Bool
-is_empty [] = true
-is_empty (x ∷ xs) = false
 
 -- a block with one more removed dist, which none of the added ones stands before
 abbrev pub removed_too : Block → List ℕ → Option (Option Block)
@@ -85,7 +87,7 @@ read_pieces made (piece ∷ []) = finished made piece
 read_pieces made (piece ∷ next ∷ more) = option_and_then (λ m. read_pieces m (next ∷ more)) (step_line made piece)
 
 abbrev pub is_newline : ℕ → Bool
-is_newline b = b == 10
+is_newline b = b == newline
 
 abbrev pub start : Made
 start = record { done = []; current = None }

@@ -1,4 +1,5 @@
 ghost use Rattle.std.specs.Prelude.{◌≡◌, ◌≢◌, ◌∷◌, List, MatchOption, MatchResult, Some, ℕ};
+ghost use Rattle.conda_base.specs.Signs.{dash, plus};
 ghost use Rattle.conda_history.specs.Reading as reading;
 
 use crate::revision::HistoryErr;
@@ -19,7 +20,7 @@ pub const BAD: HistoryErr = HistoryErr::BadHistory { line: 1 };
 
 /// Reads the dist behind a sign.
 fn read_dist(alloc: Global, text: &str) -> Result<Dist, HistoryErr>
-    ensures { MatchResult result (λ dist. reading.dist_of text.now ≡ Some dist) (λ e. reading.Fails e (reading.dist_of text.now)) }
+    ensures { reading.Answers result (reading.dist_of text.now) }
 {
     match Dist::read(alloc, text) {
         Ok(dist) => Ok(dist),
@@ -30,21 +31,23 @@ fn read_dist(alloc: Global, text: &str) -> Result<Dist, HistoryErr>
 
 /// What stands behind a `-` at the front.
 fn behind_minus(text: &str) -> Option<&str>
-    ensures { MatchOption result ((rest : List ℕ) → text.now ≢ 45 ∷ rest) (λ rest. text.now ≡ 45 ∷ rest.now) }
+    ensures { MatchOption result ((rest : List ℕ) → text.now ≢ dash ∷ rest)
+        (λ rest. text.now ≡ dash ∷ rest.now) }
 {
     text.strip_prefix('-')
 }
 
 /// What stands behind a `+` at the front.
 fn behind_plus(text: &str) -> Option<&str>
-    ensures { MatchOption result ((rest : List ℕ) → text.now ≢ 43 ∷ rest) (λ rest. text.now ≡ 43 ∷ rest.now) }
+    ensures { MatchOption result ((rest : List ℕ) → text.now ≢ plus ∷ rest)
+        (λ rest. text.now ≡ plus ∷ rest.now) }
 {
     text.strip_prefix('+')
 }
 
 /// Reads what stands behind a `-`.
 fn read_removed(alloc: Global, text: &str) -> Result<Line, HistoryErr>
-    ensures { MatchResult result (λ line. reading.removed_of text.now ≡ Some line) (λ e. reading.Fails e (reading.removed_of text.now)) }
+    ensures { reading.Answers result (reading.removed_of text.now) }
 {
     match read_dist(alloc, text) {
         Ok(dist) => Ok(Line::Removed(dist)),
@@ -54,7 +57,7 @@ fn read_removed(alloc: Global, text: &str) -> Result<Line, HistoryErr>
 
 /// Reads what stands behind a `+`.
 fn read_added(alloc: Global, text: &str) -> Result<Line, HistoryErr>
-    ensures { MatchResult result (λ line. reading.added_of text.now ≡ Some line) (λ e. reading.Fails e (reading.added_of text.now)) }
+    ensures { reading.Answers result (reading.added_of text.now) }
 {
     match read_dist(alloc, text) {
         Ok(dist) => Ok(Line::Added(dist)),
@@ -64,7 +67,7 @@ fn read_added(alloc: Global, text: &str) -> Result<Line, HistoryErr>
 
 /// Reads a line without a sign.
 fn read_plain(text: &str) -> Result<Line, HistoryErr>
-    ensures { MatchResult result (λ line. reading.header_of text.now ≡ Some line) (λ e. reading.Fails e (reading.header_of text.now)) }
+    ensures { reading.Answers result (reading.header_of text.now) }
 {
     match read_header(text.as_bytes()) {
         Some(stamp) => Ok(Line::Header(stamp)),
@@ -74,7 +77,7 @@ fn read_plain(text: &str) -> Result<Line, HistoryErr>
 
 /// Reads a line, which is given without its newline.
 pub fn read_line(alloc: Global, text: &str) -> Result<Line, HistoryErr>
-    ensures { MatchResult result (λ line. reading.line_of text.now ≡ Some line) (λ e. reading.Fails e (reading.line_of text.now)) }
+    ensures { reading.Answers result (reading.line_of text.now) }
 {
     if let Some(rest) = behind_minus(text) {
         return read_removed(alloc, rest);

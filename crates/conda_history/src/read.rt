@@ -1,4 +1,4 @@
-ghost use Rattle.std.specs.Prelude.{◌≡◌, ◌<◌, [], ◌∷◌, IfErr, IfOk, IfSome, IsUtf8, List, MatchOption, MatchResult, Some, length};
+ghost use Rattle.std.specs.Prelude.{◌≡◌, ◌<◌, [], ◌∷◌, IfErr, IfOk, IfSome, IsUtf8, List, ℕ, MatchOption, MatchResult, Some, length};
 ghost use Rattle.std.specs.List.{slice_split};
 ghost use Rattle.conda_history.specs.Blocks.{IsHistory};
 ghost use Rattle.conda_history.specs.Reading as reading;
@@ -8,7 +8,7 @@ use crate::line::{BAD, Line, read_line};
 use crate::revision::{Block, History, HistoryErr};
 use crate::stamp::Stamp;
 use conda_base::Rows;
-use conda_path::Dist;
+use conda_path::{Dist, dist_laws};
 use std::alloc::{AllocError, Global};
 
 /// The blocks so far: those that are closed, and the one that lines are put into.
@@ -32,7 +32,8 @@ fn new_block(alloc: Global, stamp: Stamp) -> Block
 
 /// Puts a dist into the open block, among the removed ones.
 fn remove(current: &mut Option<Block>, dist: Dist) -> Result<(), HistoryErr>
-    ensures { MatchResult result (λ _. reading.with_removed current.old dist ≡ Some current.new) (λ e. reading.Fails e (reading.with_removed current.old dist)) }
+    ensures { MatchResult result (λ _. reading.with_removed current.old dist ≡ Some current.new)
+        (λ e. reading.Fails e (reading.with_removed current.old dist)) }
 {
     match current {
         Some(block) => {
@@ -50,7 +51,8 @@ fn remove(current: &mut Option<Block>, dist: Dist) -> Result<(), HistoryErr>
 
 /// Puts a dist into the open block, among the added ones.
 fn add(current: &mut Option<Block>, dist: Dist) -> Result<(), HistoryErr>
-    ensures { MatchResult result (λ _. reading.with_added current.old dist ≡ Some current.new) (λ e. reading.Fails e (reading.with_added current.old dist)) }
+    ensures { MatchResult result (λ _. reading.with_added current.old dist ≡ Some current.new)
+        (λ e. reading.Fails e (reading.with_added current.old dist)) }
 {
     match current {
         Some(block) => match block.added.push(dist) {
@@ -63,7 +65,8 @@ fn add(current: &mut Option<Block>, dist: Dist) -> Result<(), HistoryErr>
 
 /// The blocks with the open one at their end.
 fn close(done: Rows<Block>, current: Option<Block>) -> Result<Rows<Block>, HistoryErr>
-    ensures { MatchResult result (λ blocks. blocks ≡ reading.closed done current) (λ e. e ≡ HistoryErr.Memory) }
+    ensures { MatchResult result (λ blocks. blocks ≡ reading.closed done current)
+        (λ e. e ≡ HistoryErr.Memory) }
 {
     let mut blocks = done;
     if let Some(block) = current {
@@ -78,7 +81,7 @@ fn close(done: Rows<Block>, current: Option<Block>) -> Result<Rows<Block>, Histo
 /// The blocks with what one more line says.
 #[tactic(auto, unfolding(crate::specs::Reading::step))]
 fn take(alloc: Global, made: Made, line: Line) -> Result<Made, HistoryErr>
-    ensures { MatchResult result (λ next. reading.step made line ≡ Some next) (λ e. reading.Fails e (reading.step made line)) }
+    ensures { reading.Answers result (reading.step made line) }
 {
     let Made { done, mut current } = made;
     match line {
@@ -102,7 +105,7 @@ fn take(alloc: Global, made: Made, line: Line) -> Result<Made, HistoryErr>
 
 /// The blocks with one more line, which is given without its newline.
 fn with_line(alloc: Global, made: Made, text: &str) -> Result<Made, HistoryErr>
-    ensures { MatchResult result (λ next. reading.step_line made text.now ≡ Some next) (λ e. reading.Fails e (reading.step_line made text.now)) }
+    ensures { reading.Answers result (reading.step_line made text.now) }
 {
     match read_line(alloc, text) {
         Ok(line) => take(alloc, made, line),
@@ -112,7 +115,9 @@ fn with_line(alloc: Global, made: Made, text: &str) -> Result<Made, HistoryErr>
 
 /// The first line and what stands behind its newline.
 fn next_line(text: &str) -> Option<(&str, &str)>
-    ensures line { MatchOption result (slice_split reading.is_newline text.now ≡ text.now ∷ []) (λ cut. slice_split reading.is_newline text.now ≡ cut.0.now ∷ slice_split reading.is_newline cut.1.now) }
+    ensures line { MatchOption result (slice_split reading.is_newline text.now ≡ text.now ∷ [])
+        (λ cut. slice_split reading.is_newline text.now
+        ≡ cut.0.now ∷ slice_split reading.is_newline cut.1.now) }
     ensures shorter { IfSome result (λ cut. length cut.1.now < length text.now) }
     ensures utf8 { IfSome result (λ cut. IsUtf8 cut.0.now × IsUtf8 cut.1.now) }
 {
@@ -121,7 +126,7 @@ fn next_line(text: &str) -> Option<(&str, &str)>
 
 /// The blocks, where nothing stands behind the last newline.
 fn finish(made: Made, rest: &str) -> Result<Rows<Block>, HistoryErr>
-    ensures { MatchResult result (λ blocks. reading.finished made rest.now ≡ Some blocks) (λ e. reading.Fails e (reading.finished made rest.now)) }
+    ensures { reading.Answers result (reading.finished made rest.now) }
 {
     if !rest.is_empty() {
         return Err(BAD);
@@ -132,7 +137,7 @@ fn finish(made: Made, rest: &str) -> Result<Rows<Block>, HistoryErr>
 
 /// The blocks of a text.
 fn blocks_of(alloc: Global, text: &str) -> Result<Rows<Block>, HistoryErr>
-    ensures { MatchResult result (λ blocks. reading.blocks_of text.now ≡ Some blocks) (λ e. reading.Fails e (reading.blocks_of text.now)) }
+    ensures { reading.Answers result (reading.blocks_of text.now) }
 {
     let mut made = Made {
         done: Rows::new(alloc),
@@ -151,7 +156,8 @@ fn blocks_of(alloc: Global, text: &str) -> Result<Rows<Block>, HistoryErr>
 
 /// The text that the bytes are, if they are UTF-8.
 fn text_of(bytes: &[u8]) -> Option<&str>
-    ensures { MatchOption result (¬ IsUtf8 bytes.now) (λ text. (text.now ≡ bytes.now) × IsUtf8 bytes.now) }
+    ensures { MatchOption result (¬ IsUtf8 bytes.now)
+        (λ text. (text.now ≡ bytes.now) × IsUtf8 bytes.now) }
 {
     match str::from_utf8(bytes) {
         Ok(text) => Some(text),
@@ -160,17 +166,21 @@ fn text_of(bytes: &[u8]) -> Option<&str>
 }
 
 impl History {
-    /// Reads the text of a history: blocks of a header line `==> YYYY-MM-DD HH:MM:SS <==`, then a line `-dist` for
-    /// each dist that left, then a line `+dist` for each that joined. Each line ends with a newline; nothing is
-    /// stripped. The empty text has no block.
+    /// Reads the text of a history: blocks of a header line `==> YYYY-MM-DD HH:MM:SS <==`, then a
+    /// line `-dist` for each dist that left, then a line `+dist` for each that joined. Each line
+    /// ends with a newline; nothing is stripped. The empty text has no block.
     ///
     /// Every other text is `BadHistory` at line 1, also one that isn't UTF-8.
     pub fn read(alloc: Global, bytes: &[u8]) -> Result<History, HistoryErr>
         ensures found { IfOk result (λ history. IsHistory bytes.now history.blocks) }
-        ensures only { (blocks : List Block) → IsHistory bytes.now blocks → MatchResult result (λ history. history.blocks ≡ blocks) (λ e. e ≡ HistoryErr.Memory) }
+        ensures only { (blocks : List Block) → IsHistory bytes.now blocks
+            → MatchResult result (λ history. history.blocks ≡ blocks) (λ e. e ≡ HistoryErr.Memory) }
         ensures line { IfErr result (λ e. reading.IsAtLine e 1) }
-        ensures exact { MatchResult result (λ history. reading.history_of bytes.now ≡ Some history.blocks) (λ e. reading.Fails e (reading.history_of bytes.now)) }
+        ensures exact { MatchResult result
+            (λ history. reading.history_of bytes.now ≡ Some history.blocks)
+            (λ e. reading.Fails e (reading.history_of bytes.now)) }
     {
+        dist_laws();
         let Some(text) = text_of(bytes) else {
             return Err(BAD);
         };
@@ -179,4 +189,12 @@ impl History {
             Err(e) => Err(e),
         }
     }
+}
+
+/// Bytes are the text of one history at most.
+pub fn history_laws()
+    ensures one { (bytes : List ℕ) (first second : List Block) → IsHistory bytes first
+        → IsHistory bytes second → first ≡ second }
+{
+    dist_laws();
 }

@@ -5,7 +5,7 @@ ghost use Rattle.std.specs.List.Sorted.{IsStrictlySortedBy};
 ghost use Rattle.conda_history.specs.Sets.{IsIn, IsLeft, set_of, with_all, without_all};
 
 use crate::revision::{Block, History, HistoryErr};
-use conda_base::Rows;
+use conda_base::{Copied, Rows};
 use conda_path::Dist;
 use std::alloc::{AllocError, Global};
 use std::collections::BTreeSet;
@@ -24,14 +24,15 @@ fn put_in(alloc: Global, set: &mut BTreeSet<Dist>, dists: &[Dist]) -> Result<(),
     ensures { OnOk result (set.new.keys ≡ with_all set.old.keys dists.now) }
 {
     for dist in dists {
-        set.insert(dist.copy(alloc)?)?;
+        set.insert(dist.copy()?)?;
     }
     Ok(())
 }
 
 /// Replays one block on the set.
 fn replay(alloc: Global, set: &mut BTreeSet<Dist>, block: &Block) -> Result<(), AllocError>
-    ensures { OnOk result (set.new.keys ≡ with_all (without_all set.old.keys block.now.removed) block.now.added) }
+    ensures { OnOk result (set.new.keys
+        ≡ with_all (without_all set.old.keys block.now.removed) block.now.added) }
 {
     take_out(set, block.removed.as_slice());
     put_in(alloc, set, block.added.as_slice())
@@ -61,10 +62,11 @@ fn listed(alloc: Global, set: BTreeSet<Dist>) -> Result<Rows<Dist>, AllocError>
 }
 
 impl History {
-    /// The dists that the blocks leave, ascending by their bytes, each once: those that the last block which names
-    /// them adds. In a block that names a dist on both sides, the adding counts.
+    /// The dists that the blocks leave, ascending by their bytes, each once: those that the last
+    /// block which names them adds. In a block that names a dist on both sides, the adding counts.
     pub fn set(&self, alloc: Global) -> Result<Rows<Dist>, HistoryErr>
-        ensures members { IfOk result (λ set. (dist : List ℕ) → IsIn dist set ↔ IsLeft self.now.blocks dist) }
+        ensures members { IfOk result (λ set. (dist : List ℕ)
+            → IsIn dist set ↔ IsLeft self.now.blocks dist) }
         ensures ascending { IfOk result (λ set. IsStrictlySortedBy (slice_cmp nat_cmp) set) }
         ensures exact { IfOk result (λ set. set ≡ set_of self.now.blocks) }
         ensures memory { IfErr result (λ e. e ≡ HistoryErr.Memory) }

@@ -2,7 +2,7 @@
 use Rattle.std.proofs.Common.{◌≡◌, ℕ, zero, suc, ◌+◌, ◌-◌, ◌==◌, ◌<◌, ◌≤◌, ℤ, List, [], ◌∷◌, ◌++◌, length, map, take, get_or, Some, None, option_map, slice_get, refl, sym, ap, ◌∙◌, arith, append_assoc}
 use Rattle.std.proofs.lemmas.Bool.{cond-false, ne_eqb}
 use Rattle.std.proofs.lemmas.Option.{slice_get-get_or, slice_get-map, slice_get_past}
-use Rattle.std.proofs.lemmas.List.{take_more}
+use Rattle.std.proofs.lemmas.List.{map-append, take_more}
 use Rattle.conda_refute.specs.Refutation.{named, clauses_of}
 use Rattle.conda_refute.specs.declared.log.Step.{Step}
 
@@ -34,13 +34,9 @@ pub named_none : (inputs : List (List ℤ)) (before : List Step) (n : ℕ) → (
 named_none inputs before n h far past =
     sym (at_step inputs before n h far ∙ ap (option_map (λ s. s.clause)) (slice_get_past before (n - 1 - length inputs) past))
 
-map_end : (xs : List Step) (s : Step) → map (λ r. r.clause) (xs ++ s ∷ []) ≡ map (λ r. r.clause) xs ++ s.clause ∷ []
-map_end [] s = refl
-map_end (x ∷ xs) s = ap (λ ls. x.clause ∷ ls) (map_end xs s)
-
 pub clauses_more : (inputs : List (List ℤ)) (steps : List Step) (i : ℕ) (d : Step) → i < length steps →
     clauses_of inputs (take (i + 1) steps) ≡ clauses_of inputs (take i steps) ++ (get_or steps i d).clause ∷ []
 clauses_more inputs steps i d short =
     ap (clauses_of inputs) (take_more steps i d short)
-    ∙ ap (λ ls. inputs ++ ls) (map_end (take i steps) (get_or steps i d))
+    ∙ ap (λ ls. inputs ++ ls) (map-append (λ s. s.clause) (take i steps) (get_or steps i d ∷ []))
     ∙ sym (append_assoc inputs (map (λ r. r.clause) (take i steps)) ((get_or steps i d).clause ∷ []))

@@ -1,6 +1,7 @@
 -- Lists that hold the same literals, as ones taken as false, give the same answers.
 use Rattle.std.proofs.Common.{◌≡◌, ℕ, ◌+◌, ◌<◌, ℤ, pos, neg_ℤ, length, get_or, take, Bool, true, false, not, cond, ◌&&◌, ◌||◌, List, [], ◌∷◌, Option, Some, None, refl, sym, ap, ◌∙◌, int_eq}
 use Rattle.std.specs.List.{list_any}
+use Rattle.std.proofs.Math.Bool.{or_comm}
 use Rattle.std.proofs.lemmas.Cmp.{int_eq_equiv}
 use Rattle.std.proofs.lemmas.List.Folds.{list_any_more}
 use Rattle.conda_refute.specs.Literals.{has}
@@ -41,12 +42,6 @@ pub same_opposites : (f g : List ℤ) → ((q : ℤ) → has f q ≡ has g q) �
 same_opposites f g same [] = refl
 same_opposites f g same (x ∷ c) =
     ap (λ b. b || list_any (λ l. has f (neg_ℤ l)) c) (same (neg_ℤ x)) ∙ ap (λ b. has g (neg_ℤ x) || b) (same_opposites f g same c)
-
-or_comm : (a b : Bool) → (a || b) ≡ (b || a)
-or_comm true true = refl
-or_comm true false = refl
-or_comm false true = refl
-or_comm false false = refl
 
 pub taken_more : (clause : List ℤ) (i : ℕ) (x q : ℤ) (f g : List ℤ) → i < length clause → x ≡ get_or clause i (pos 0) → has g q ≡ has (x ∷ f) q → has f q ≡ has (take i clause) q → has g q ≡ has (take (i + 1) clause) q
 taken_more clause i x q f g short is added before =

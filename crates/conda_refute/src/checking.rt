@@ -9,11 +9,13 @@ use crate::falses::{Falses, opposite};
 use crate::log::{Log, RefuteErr, Step};
 use std::alloc::{AllocError, Global};
 
-/// Whether the log refutes its inputs: each step follows by its hints from the inputs and the earlier steps, and the last clause is empty.
-/// `Bad` has the first step that doesn't follow, or the last if its clause isn't empty, or 0 if there is none.
+/// Whether the log refutes its inputs: each step follows by its hints from the inputs and the
+/// earlier steps, and the last clause is empty. `Bad` has the first step that doesn't follow, or
+/// the last if its clause isn't empty, or 0 if there is none.
 pub fn check(alloc: Global, log: &Log) -> Result<(), RefuteErr>
     ensures ok { OnOk result (refuted log.now ≡ true) }
-    ensures bad { IfErr result (λ e. (e ≡ RefuteErr.Memory) ⊎ ((step : ℕ) × (e ≡ RefuteErr.Bad step) × (bad_step log.now ≡ Some step))) }
+    ensures bad { IfErr result (λ e. (e ≡ RefuteErr.Memory)
+        ⊎ ((step : ℕ) × (e ≡ RefuteErr.Bad step) × (bad_step log.now ≡ Some step))) }
     ensures not_refuted { IfErr result (λ e. (e ≡ RefuteErr.Memory) ⊎ (refuted log.now ≡ false)) }
 {
     let inputs = log.inputs.as_slice();
@@ -40,7 +42,8 @@ pub fn check(alloc: Global, log: &Log) -> Result<(), RefuteErr>
 
 /// A log that refutes its inputs leaves no assignment that makes all of them true.
 pub fn no_assignment_is_left(log: &Log)
-    ensures { refuted log.now ≡ true → (v : ℕ → Bool) → list_all (clause_true v) log.now.inputs ≡ true → ⊥ }
+    ensures { refuted log.now ≡ true → (v : ℕ → Bool)
+        → list_all (clause_true v) log.now.inputs ≡ true → ⊥ }
 {
     let _ = log;
 }
@@ -102,7 +105,8 @@ fn go_through(
     hints: &[u64],
     falses: &mut Falses,
 ) -> Result<bool, AllocError>
-    ensures { IfOk result (λ yes. yes ≡ hints_end (clauses_of inputs.now before.now) hints.now falses.old) }
+    ensures { IfOk result (λ yes. yes
+        ≡ hints_end (clauses_of inputs.now before.now) hints.now falses.old) }
 {
     for hint in hints {
         let Some(clause) = clause_at(inputs, before, *hint) else {

@@ -5,8 +5,8 @@ use std::alloc::{AllocError, Global};
 use std::collections::HashSet;
 use std::marker::Model;
 
-/// The literals that are taken as false, and no literal twice. Contracts see them as a list, in no order.
-/// They are `i64`, as the opposite of the least `i32` is no `i32`.
+/// The literals that are taken as false, and no literal twice. Contracts see them as a list, in no
+/// order. They are `i64`, as the opposite of the least `i32` is no `i32`.
 #[derive(Drop)]
 pub struct Falses {
     literals: HashSet<i64>,

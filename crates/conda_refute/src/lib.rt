@@ -1,4 +1,5 @@
-//! Refutations: a log of steps that shows that no assignment makes all of its input clauses true, and the check of such a log.
+//! Refutations: a log of steps that shows that no assignment makes all of its input clauses true,
+//! and the check of such a log.
 #![tactic(auto)]
 
 mod checking;
@@ -11,6 +12,3 @@ mod text;
 pub use checking::{check, no_assignment_is_left};
 pub use clause::Clause;
 pub use log::{Log, RefuteErr, Step};
-
-#[cfg(test)]
-mod tests;

@@ -1,6 +1,6 @@
 use Rattle.std.proofs.Common.{arith}
 use Rattle.conda_core.proofs.RunLemmas.{goes_on}
-use Rattle.conda_core.proofs.machine.Core.run.Goals as goal
+use Rattle.conda_core.proofs.machine.Core.apply_all.Goals as goal
 
 pub loop-event-preserved : goal.loop-event-preserved
 loop-event-preserved c =
