@@ -4,4 +4,6 @@ pub mod CutLemmas
 pub mod PieceLemmas
 pub mod RunLemmas
 pub mod PartLemmas
+pub mod TurnLemmas
+pub mod VersionLemmas
 pub mod OrderLemmas

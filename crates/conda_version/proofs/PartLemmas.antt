@@ -8,7 +8,7 @@ use Rattle.std.specs.Option.{option_map, option_map_or, option_and_then}
 use Rattle.conda_base.specs.Numbers.{is_digits}
 use Rattle.conda_base.specs.Signs.{exclamation, plus}
 use Rattle.conda_base.specs.Texts.{IsFreeOf, cut_first, is_byte, is_empty}
-use Rattle.conda_version.specs.Grammar.{HasShortRuns, behind_epoch, epoch_fault, epoch_part, local_fault, local_part, main_part, main_start, mark_from}
+use Rattle.conda_version.specs.Grammar.{HasShortRuns, behind_epoch, epoch_fault, epoch_part, fault_at_epoch, fault_at_local, local_fault, local_part, main_part, main_start, mark_from}
 use Rattle.conda_version.specs.Versions.{as_dot, epoch_text, local_text, main_dots}
 use Rattle.conda_version.proofs.CutLemmas.{cut_none, cut_whole, no_place}
 use Rattle.conda_version.proofs.RunLemmas.{all_digits, digits_are_all, short_back, short_digits, short_front, short_of_dots, short_of_main_dots}
@@ -28,9 +28,12 @@ rest_whole : (rest : List ℕ) (halves : Option (List ℕ × List ℕ)) → cut_
 rest_whole rest None e = sym (append-nil rest)
 rest_whole rest (Some h) e = (cut_whole plus rest h.0 h.1 e).0
 
+pub rest_is : (text : List ℕ) → behind_epoch text ≡ main_part text ++ local_text (local_part text)
+rest_is text = rest_whole (behind_epoch text) (cut_first plus (behind_epoch text)) refl
+
 pub parts_whole : (text : List ℕ) → text ≡ epoch_text (epoch_part text) ++ (main_part text ++ local_text (local_part text))
 parts_whole text =
-    behind_whole text ∙ ap (λ rest. epoch_text (epoch_part text) ++ rest) (rest_whole (behind_epoch text) (cut_first plus (behind_epoch text)) refl)
+    behind_whole text ∙ ap (λ rest. epoch_text (epoch_part text) ++ rest) (rest_is text)
 
 -- ---- the parts of a text with sound marks
 
@@ -45,7 +48,7 @@ pub epoch_sound : (text : List ℕ) → epoch_fault text ≡ None → IfSome (ep
 epoch_sound text good = by_cut (cut_first exclamation text) refl good
   where
     by_cut : (halves : Option (List ℕ × List ℕ)) → cut_first exclamation text ≡ halves
-        → option_and_then (λ h. if is_digits h.0 then mark_from exclamation (length h.0 + 1) h.1 else Some (length h.0)) halves ≡ None
+        → option_and_then fault_at_epoch halves ≡ None
         → IfSome (option_map (λ h. h.0) halves) (λ digits. is_digits digits ≡ true) × IsFreeOf exclamation (option_map_or (λ h. h.1) halves text)
     by_cut None e g = (tt, cut_none exclamation text e)
     by_cut (Some h) e g = by_digits (is_digits h.0) refl g
@@ -59,7 +62,7 @@ pub local_sound : (text : List ℕ) → local_fault text ≡ None → IsFreeOf p
 local_sound text good = by_cut (cut_first plus (behind_epoch text)) refl good
   where
     by_cut : (halves : Option (List ℕ × List ℕ)) → cut_first plus (behind_epoch text) ≡ halves
-        → option_and_then (λ h. if is_empty h.0 then Some (main_start text) else mark_from plus (main_start text + length h.0 + 1) h.1) halves ≡ None
+        → option_and_then (fault_at_local (main_start text)) halves ≡ None
         → IsFreeOf plus (option_map_or (λ h. h.0) halves (behind_epoch text)) × IfSome (option_map (λ h. h.1) halves) (IsFreeOf plus)
     by_cut None e g = (cut_none plus (behind_epoch text) e, tt)
     by_cut (Some h) e g = by_empty (is_empty h.0) refl g

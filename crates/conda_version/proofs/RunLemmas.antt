@@ -13,14 +13,13 @@ use Rattle.conda_base.specs.Numbers.{is_digits}
 use Rattle.conda_version.specs.Grammar.{HasShortRuns, HasValue, joined, numeral_from, run_len, runs_of}
 use Rattle.conda_version.specs.Versions.{as_dot, begins_with_digit, main_dots}
 
-abbrev like : Bool → ℕ → Bool
+abbrev pub like : Bool → ℕ → Bool
 like k c = beq k (is_ascii_digit c)
 
-FirstRun : ℕ → List ℕ → Bool → Type 0
+abbrev pub FirstRun : ℕ → List ℕ → Bool → Type 0
 FirstRun b bs k = runs_of (b ∷ bs) ≡ (b ∷ take (prefix_len (like k) bs) bs) ∷ runs_of (drop (prefix_len (like k) bs) bs)
 
 joined_alike : (b c : ℕ) (cs : List ℕ) (k : Bool) → beq k k ≡ true → is_ascii_digit b ≡ k → is_ascii_digit c ≡ k → FirstRun c cs k → FirstRun b (c ∷ cs) k
-unfolding FirstRun
 joined_alike b c cs k self e f ih =
     let m : ℕ = prefix_len (like k) cs in
     let alike : beq (is_ascii_digit b) (is_ascii_digit c) ≡ true = ap (λ q. beq q (is_ascii_digit c)) e ∙ ap (beq k) f ∙ self in
@@ -30,7 +29,6 @@ joined_alike b c cs k self e f ih =
     ∙ sym (ap (λ n. (b ∷ take n (c ∷ cs)) ∷ runs_of (drop n (c ∷ cs))) len)
 
 joined_unlike : (b c : ℕ) (cs : List ℕ) (k j : Bool) → beq k j ≡ false → is_ascii_digit b ≡ k → is_ascii_digit c ≡ j → FirstRun c cs j → FirstRun b (c ∷ cs) k
-unfolding FirstRun
 joined_unlike b c cs k j other e f ih =
     let m : ℕ = prefix_len (like j) cs in
     let unlike : beq (is_ascii_digit b) (is_ascii_digit c) ≡ false = ap (λ q. beq q (is_ascii_digit c)) e ∙ ap (beq k) f ∙ other in
@@ -46,23 +44,24 @@ joined_step b c cs true false e f ih = joined_unlike b c cs true false refl e f 
 joined_step b c cs false true e f ih = joined_unlike b c cs false true refl e f ih
 joined_step b c cs false false e f ih = joined_alike b c cs false refl e f ih
 
-runs_of_cons : (b : ℕ) (bs : List ℕ) → FirstRun b bs (is_ascii_digit b)
-unfolding FirstRun
+pub runs_of_cons : (b : ℕ) (bs : List ℕ) → FirstRun b bs (is_ascii_digit b)
 runs_of_cons b [] = refl
 runs_of_cons b (c ∷ cs) = joined_step b c cs (is_ascii_digit b) (is_ascii_digit c) refl refl (runs_of_cons c cs)
 
-beq_self : (k : Bool) → beq k k ≡ true
+pub beq_self : (k : Bool) → beq k k ≡ true
 beq_self true = refl
 beq_self false = refl
 
 -- the first run, and the runs behind it
 pub runs_first : (bs : List ℕ) → 0 < length bs → runs_of bs ≡ take (run_len bs) bs ∷ runs_of (drop (run_len bs) bs)
-unfolding FirstRun
 runs_first [] h = absurd (omega arith)
 runs_first (b ∷ bs) h =
     let m : ℕ = prefix_len (like (is_ascii_digit b)) bs in
     let e : run_len (b ∷ bs) ≡ suc m = ap (λ k. cond k (1 + m) 0) (beq_self (is_ascii_digit b)) ∙ omega arith in
     runs_of_cons b bs ∙ sym (ap (λ n. take n (b ∷ bs) ∷ runs_of (drop n (b ∷ bs))) e)
+
+pub run_some : (b : ℕ) (bs : List ℕ) → 0 < run_len (b ∷ bs)
+run_some b bs = omega (arith, ap (λ k. cond k (1 + prefix_len (like (is_ascii_digit b)) bs) 0) (beq_self (is_ascii_digit b)))
 
 all_step : (p : ℕ → Bool) (x : ℕ) (xs : List ℕ) (k : Bool) → p x ≡ k → list_all p (take (prefix_len p xs) xs) ≡ true
     → list_all p (take (prefix_len p (x ∷ xs)) (x ∷ xs)) ≡ true
@@ -71,7 +70,7 @@ all_step p x xs true e h =
     ap (λ n. list_all p (take n (x ∷ xs))) len ∙ ap (λ k. k && list_all p (take (prefix_len p xs) xs)) e ∙ h
 all_step p x xs false e h = ap (λ n. list_all p (take n (x ∷ xs))) (ap (λ k. cond k (1 + prefix_len p xs) 0) e)
 
-all_of_prefix : (p : ℕ → Bool) (xs : List ℕ) → list_all p (take (prefix_len p xs) xs) ≡ true
+pub all_of_prefix : (p : ℕ → Bool) (xs : List ℕ) → list_all p (take (prefix_len p xs) xs) ≡ true
 all_of_prefix p [] = refl
 all_of_prefix p (x ∷ xs) = all_step p x xs (p x) refl (all_of_prefix p xs)
 
@@ -127,7 +126,7 @@ short_of_take n text short = record { each = λ i. omega (arith, prefix_of_part 
 digit_of_dot : (b : ℕ) → is_ascii_digit (as_dot b) ≡ is_ascii_digit b
 digit_of_dot b = grind (arith, nat_tests)
 
-prefix_of_dots : (i : ℕ) (xs : List ℕ) → prefix_len is_ascii_digit (drop i (map as_dot xs)) ≡ prefix_len is_ascii_digit (drop i xs)
+pub prefix_of_dots : (i : ℕ) (xs : List ℕ) → prefix_len is_ascii_digit (drop i (map as_dot xs)) ≡ prefix_len is_ascii_digit (drop i xs)
 prefix_of_dots zero [] = refl
 prefix_of_dots zero (x ∷ xs) = rw (digit_of_dot x) (ap (λ n. cond (is_ascii_digit x) (1 + n) 0) (prefix_of_dots 0 xs))
 prefix_of_dots (suc i) [] = refl
@@ -136,7 +135,7 @@ prefix_of_dots (suc i) (x ∷ xs) = prefix_of_dots i xs
 pub short_of_dots : (text : List ℕ) → HasShortRuns text → HasShortRuns (map as_dot text)
 short_of_dots text short = record { each = λ i. omega (arith, prefix_of_dots i text, short.each i) }
 
-prefix_of_main_dots : (i : ℕ) (xs : List ℕ) → prefix_len is_ascii_digit (drop i (main_dots xs)) ≡ prefix_len is_ascii_digit (drop i xs)
+pub prefix_of_main_dots : (i : ℕ) (xs : List ℕ) → prefix_len is_ascii_digit (drop i (main_dots xs)) ≡ prefix_len is_ascii_digit (drop i xs)
 prefix_of_main_dots i [] = refl
 prefix_of_main_dots i (x ∷ []) = refl
 prefix_of_main_dots zero (x ∷ y ∷ xs) = rw (digit_of_dot x) (ap (λ n. cond (is_ascii_digit x) (1 + n) 0) (prefix_of_main_dots 0 (y ∷ xs)))

@@ -95,26 +95,31 @@ main_start text = length text - length (behind_epoch text)
 abbrev pub mark_from : ℕ → ℕ → List ℕ → Option ℕ
 mark_from mark at text = option_map (λ p. at + p) (position (is_byte mark) text)
 
--- a first `!` that stands behind no number, or a second one
-abbrev pub epoch_fault : List ℕ → Option ℕ
-epoch_fault text =
-    option_and_then (λ halves. if is_digits halves.0 then mark_from exclamation (length halves.0 + 1) halves.1 else Some (length halves.0)) (cut_first exclamation text)
+-- what is wrong at a first `!`: no number before it, or a second one behind it
+abbrev pub fault_at_epoch : List ℕ × List ℕ → Option ℕ
+fault_at_epoch halves = if is_digits halves.0 then mark_from exclamation (length halves.0 + 1) halves.1 else Some (length halves.0)
 
--- a first `+` with nothing before it, or a second one
+abbrev pub epoch_fault : List ℕ → Option ℕ
+epoch_fault text = option_and_then fault_at_epoch (cut_first exclamation text)
+
+-- what is wrong at a first `+` behind a place: nothing between, or a second one behind it
+abbrev pub fault_at_local : ℕ → List ℕ × List ℕ → Option ℕ
+fault_at_local start halves = if is_empty halves.0 then Some start else mark_from plus (start + length halves.0 + 1) halves.1
+
 abbrev pub local_fault : List ℕ → Option ℕ
-local_fault text =
-    option_and_then (λ halves. if is_empty halves.0 then Some (main_start text) else mark_from plus (main_start text + length halves.0 + 1) halves.1)
-    (cut_first plus (behind_epoch text))
+local_fault text = option_and_then (fault_at_local (main_start text)) (cut_first plus (behind_epoch text))
 
 -- where the first empty one of these components would begin, of which the first stands at a place
 abbrev pub empty_from : ℕ → List (List ℕ) → Option ℕ
 empty_from at [] = None
 empty_from at (piece ∷ pieces) = if length piece == 0 then Some at else empty_from (at + length piece + 1) pieces
 
+-- the same of a local part at the end of a text
+abbrev pub empty_local : List ℕ → List ℕ → Option ℕ
+empty_local text local = empty_from (length text - length local) (pieces (map as_dot local))
+
 abbrev pub component_fault : List ℕ → Option ℕ
-component_fault text =
-    option_or (empty_from (main_start text) (pieces (main_dots (main_part text))))
-    (option_and_then (λ local. empty_from (length text - length local) (pieces (map as_dot local))) (local_part text))
+component_fault text = option_or (empty_from (main_start text) (pieces (main_dots (main_part text)))) (option_and_then (empty_local text) (local_part text))
 
 -- the first place from which more than 38 digits stand in a row
 abbrev pub numeral_from : ℕ → List ℕ → Option ℕ

@@ -1,9 +1,11 @@
-ghost use Rattle.std.specs.Prelude.{◌≡◌, List, ℕ, true};
+ghost use Rattle.std.specs.Prelude.{◌≡◌, List, None, ℕ, true};
 ghost use Rattle.std.specs.Cmp.{IsTotalOrder};
 ghost use Rattle.std.specs.Ordering.{is_le, ordering_reverse};
 ghost use Rattle.std.specs.declared.cmp.Ordering.TheVariants.{Equal};
+ghost use Rattle.conda_version.specs.Grammar.{meaning, offence};
 ghost use Rattle.conda_version.specs.Order.{version_cmp};
 ghost use Rattle.conda_version.specs.Text.{trimmed};
+ghost use Rattle.conda_version.specs.Versions.{IsVersionText, Meaning};
 
 /// The order of versions is a total preorder: versions that it finds equal may have other texts.
 pub fn order_laws()
@@ -16,4 +18,11 @@ pub fn order_laws()
 /// What is trimmed has no more spaces at its ends.
 pub fn trimmed_law()
     ensures { (text : List ℕ) → trimmed (trimmed text) ≡ trimmed text }
+{}
+
+/// The grammar of versions and what is read: every text of the grammar is read, with the value that the grammar gives,
+/// and nothing else is.
+pub fn grammar_laws()
+    ensures read { (text : List ℕ) → offence text ≡ None → IsVersionText text (meaning text) }
+    ensures only { (text : List ℕ) (version : Meaning) → IsVersionText text version → (offence text ≡ None) × (meaning text ≡ version) }
 {}
