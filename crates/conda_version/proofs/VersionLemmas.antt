@@ -5,20 +5,22 @@ use Rattle.std.proofs.lemmas.Bool.{and_from, and_parts}
 use Rattle.std.proofs.lemmas.Bool.Decides.{nat_tests}
 use Rattle.std.proofs.lemmas.List.{append-nil}
 use Rattle.std.proofs.lemmas.List.Splits.{join_with_byte-slice_split, length-slice_split, slice_split-cons_no}
-use Rattle.std.specs.Prelude.{IfSome, nat_lt, not, ◌==◌, ◌||◌, if◌then◌else◌}
-use Rattle.std.specs.Char.{is_ascii_digit}
+use Rattle.std.specs.Prelude.{IfSome, slice_get, nat_lt, not, ◌==◌, ◌||◌, if◌then◌else◌}
+use Rattle.std.specs.Char.{is_ascii_digit, to_ascii_lowercase}
 use Rattle.std.specs.List.{AllByRecursion, count_by, join_with_byte, list_all, onto_first, position, prefix_len, slice_split}
 use Rattle.std.specs.Option.{option_map, option_map_or, option_and_then, option_or}
 use Rattle.std.specs.Str.{all_ascii_digits}
 use Rattle.std.specs.Str.Parse.{digits_value}
 use Rattle.conda_base.specs.Numbers.{is_digits}
-use Rattle.conda_base.specs.Signs.{dot, exclamation, plus}
-use Rattle.conda_base.specs.Texts.{IsFreeOf, cut_first, is_byte, is_empty}
+use Rattle.conda_base.specs.Signs.{dash, dot, exclamation, plus, underscore}
+use Rattle.conda_base.specs.Texts.{IsFreeOf, cut_first, ends_with, is_byte, is_empty}
 use Rattle.conda_version.specs.declared.error.VersionWhy.{VersionWhy}
 use Rattle.conda_version.specs.declared.error.VersionWhy.TheVariants.{Empty, Char, Epoch, Local, Component, Numeral}
 use Rattle.conda_version.specs.declared.run.Run.{Run}
-use Rattle.conda_version.specs.Grammar.{HasShortRuns, because, behind_epoch, char_fault, component_fault, component_of, components_of, empty_fault, empty_from, empty_local, epoch_fault, epoch_of, epoch_part, fault, fault_at_epoch, fault_at_local, is_part_char, is_plain, local_fault, local_of, local_part, main_part, main_start, mark_from, marks_fault, numeral_from, pieces, plain_meaning}
-use Rattle.conda_version.specs.Versions.{AreComponents, IsComponent, IsEpoch, IsLocal, IsNumeral, IsVersion, Meaning, as_dot, epoch_text, local_text, main_dots}
+use Rattle.conda_version.specs.Grammar.{HasShortRuns, because, behind_epoch, char_fault, component_fault, component_of, components_of, empty_fault, empty_from, empty_local, epoch_fault, epoch_of, epoch_part, fault, fault_at_epoch, fault_at_local, is_part_char, is_plain, local_fault, local_of, local_part, main_part, main_start, mark_from, marks_fault, meaning, numeral_from, offence, pieces, plain_meaning}
+use Rattle.conda_version.specs.Versions.{AreComponents, IsComponent, IsEpoch, IsLocal, IsNumeral, IsVersion, IsVersionText, Meaning, as_dot, epoch_text, local_text, main_dots}
+use Rattle.conda_version.specs.Order.{meaning_cmp, meaning_starts, version_cmp, version_starts}
+use Rattle.conda_version.specs.Text.{holds, plain, underscored}
 use Rattle.conda_version.proofs.CutLemmas.{cut_again, cut_free, place_of_free}
 use Rattle.conda_version.proofs.PartLemmas.{epoch_sound, local_sound, parts_whole, rest_is, short_epoch, short_local, short_main}
 use Rattle.conda_version.proofs.RunLemmas.{all_digits, digits_are_all, prefix_of_dots, prefix_of_main_dots, short_back, short_digits, short_from_none, short_front}
@@ -82,6 +84,39 @@ part_sound at dotted short chars none =
     subst (λ text. AreComponents text (components_of dotted)) whole
     (joined_sound at (pieces dotted) some (subst HasShortRuns (sym whole) short) (ap (list_all is_part_char) whole ∙ chars) (pieces_free dotted) none)
 
+-- ---- how texts end
+
+ends_step : (c x y : ℕ) (xs : List ℕ) → ends_with c (x ∷ y ∷ xs) ≡ ends_with c (y ∷ xs)
+ends_step c x y xs =
+    let last : length (x ∷ y ∷ xs) - 1 ≡ suc (length (y ∷ xs) - 1) = omega arith in
+    ap (λ i. option_map_or (λ b. b == c) (slice_get (x ∷ y ∷ xs) i) false) last
+
+ends_back : (c : ℕ) (xs ys : List ℕ) → 0 < length ys → ends_with c (xs ++ ys) ≡ ends_with c ys
+ends_back c [] ys h = refl
+ends_back c (x ∷ []) [] h = absurd (omega arith)
+ends_back c (x ∷ []) (y ∷ ys) h = ends_step c x y ys
+ends_back c (x ∷ y ∷ xs) ys h = ends_step c x y (xs ++ ys) ∙ ends_back c (y ∷ xs) ys h
+
+ends_of_free : (c : ℕ) (xs : List ℕ) → IsFreeOf c xs → ends_with c xs ≡ false
+ends_of_free c [] h = refl
+ends_of_free c (x ∷ []) h = h.0
+ends_of_free c (x ∷ y ∷ xs) h = ends_step c x y xs ∙ ends_of_free c (y ∷ xs) h.1
+
+ends_main : (xs : List ℕ) → ends_with dot (main_dots xs) ≡ ends_with dot xs
+ends_main [] = refl
+ends_main (x ∷ []) = refl
+ends_main (x ∷ y ∷ []) = refl
+ends_main (x ∷ y ∷ z ∷ xs) =
+    ends_step dot (as_dot x) (as_dot y) (main_dots (z ∷ xs)) ∙ ends_main (y ∷ z ∷ xs) ∙ sym (ends_step dot x y (z ∷ xs))
+
+no_dot_of : (b : ℕ) → (as_dot b == dot) ≡ false → (b == dot) ≡ false
+no_dot_of b h = grind (arith, nat_tests)
+
+ends_undotted : (xs : List ℕ) → ends_with dot (map as_dot xs) ≡ false → ends_with dot xs ≡ false
+ends_undotted [] h = refl
+ends_undotted (x ∷ []) h = no_dot_of x h
+ends_undotted (x ∷ y ∷ xs) h = ends_step dot x y xs ∙ ends_undotted (y ∷ xs) (sym (ends_step dot (as_dot x) (as_dot y) (map as_dot xs)) ∙ h)
+
 -- ---- what has components is read so
 
 pub record IsDotted (text : List ℕ) (components : List (List Run)) : Type 0 where
@@ -90,6 +125,7 @@ pub record IsDotted (text : List ℕ) (components : List (List Run)) : Type 0 wh
   pub some : 0 < length text
   pub short : HasShortRuns text
   pub chars : list_all is_part_char text ≡ true
+  pub ends : ends_with dot text ≡ false
 
 split_front : (front rest : List ℕ) → IsFreeOf dot front → pieces (front ++ dot ∷ rest) ≡ front ∷ pieces rest
 split_front [] rest h = refl
@@ -125,6 +161,7 @@ part_again text (component ∷ []) h =
       some = piece.some;
       short = piece.short;
       chars = all_as is_piece_char is_part_char part_char text piece.chars;
+      ends = ends_of_free dot text (piece_free text piece.chars);
     }
 part_again text (component ∷ next ∷ more) h =
     let front : List ℕ = h.0 in
@@ -138,6 +175,7 @@ part_again text (component ∷ next ∷ more) h =
       some = long front rest;
       short = short_before front dot rest refl piece.short behind.short;
       chars = all_both is_part_char front (dot ∷ rest) (all_as is_piece_char is_part_char part_char front piece.chars) behind.chars;
+      ends = ends_back dot front (dot ∷ rest) (omega arith) ∙ ends_back dot (dot ∷ []) rest behind.some ∙ behind.ends;
     })
   where
     long : (xs ys : List ℕ) → 0 < length (xs ++ dot ∷ ys)
@@ -344,6 +382,14 @@ no_empty_fault front main back h = ap (λ k. cond k (Some 0) None) (not_empty (f
     long [] (b ∷ main) back h = omega arith
     long (b ∷ front) main back h = omega arith
 
+some_undotted : (xs : List ℕ) → 0 < length (map as_dot xs) → 0 < length xs
+some_undotted [] h = h
+some_undotted (x ∷ xs) h = omega arith
+
+some_rest : (main back : List ℕ) → 0 < length (main_dots main) → 0 < length (main ++ back)
+some_rest [] back h = absurd (omega arith)
+some_rest (b ∷ main) back h = omega arith
+
 -- the epoch of the grammar
 record IsFront (epoch : Option (List ℕ)) (value : ℕ) : Type 0 where
   number : option_map_or (digits_value 10) epoch 0 ≡ value
@@ -384,6 +430,7 @@ record IsBack (local : Option (List ℕ)) (components : List (List Run)) : Type 
   free : IsFreeOf exclamation (local_text local)
   short : (main : List ℕ) → HasShortRuns main → HasShortRuns (main ++ local_text local)
   chars : list_all is_plain (local_text local) ≡ true
+  ends : (main : List ℕ) → ends_with dot main ≡ false → ends_with dot (main ++ local_text local) ≡ false
 
 back_again : (local : Option (List ℕ)) (components : List (List Run)) → IsLocal local components → IsBack local components
 back_again None components h = record {
@@ -394,6 +441,7 @@ back_again None components h = record {
   free = tt;
   short = λ main short. subst HasShortRuns (sym (append-nil main)) short;
   chars = refl;
+  ends = λ main h. ap (ends_with dot) (append-nil main) ∙ h;
 }
 back_again (Some part) components h =
     let dotted = part_again (map as_dot part) components h in
@@ -408,11 +456,14 @@ back_again (Some part) components h =
       free = (refl, part_free exclamation no_exclamation part chars);
       short = λ main short. short_before main plus part refl short (short_undotted part dotted.short);
       chars = all_as is_part_char is_plain plain_part part chars;
+      ends = λ main h.
+          ends_back dot main (plus ∷ part) (omega arith) ∙ ends_back dot (plus ∷ []) part (some_undotted part dotted.some) ∙ ends_undotted part dotted.ends;
     }
 
 pub record IsRead (text : List ℕ) (version : Meaning) : Type 0 where
   pub good : fault text ≡ None
   pub value : plain_meaning text ≡ version
+  pub ends : ends_with dot text ≡ false
 
 no_fault : (text : List ℕ) → IsSound text → empty_fault text ≡ None → fault text ≡ None
 no_fault text sound some =
@@ -460,4 +511,36 @@ version_again text version v =
     (ap (λ o. option_map_or (digits_value 10) o 0) epoch_is ∙ front.number)
     (ap (λ m. components_of (main_dots m)) main_is ∙ dotted.value)
     (ap (λ o. option_map_or (λ text. components_of (map as_dot text)) o []) local_is ∙ back.value) in
-    subst (λ t. IsRead t version) (sym v.whole) (record { good = no_fault whole sound (no_empty_fault (epoch_text v.epoch) main (local_text v.local) dotted.some); value = value })
+    let ends : ends_with dot whole ≡ false =
+    ends_back dot (epoch_text v.epoch) rest (some_rest main (local_text v.local) dotted.some) ∙ back.ends main (sym (ends_main main) ∙ dotted.ends) in
+    subst (λ t. IsRead t version) (sym v.whole) (record { good = no_fault whole sound (no_empty_fault (epoch_text v.epoch) main (local_text v.local) dotted.some); value = value; ends = ends })
+
+-- ---- what texts of versions hold
+
+pub version_chars : (text : List ℕ) → fault text ≡ None → list_all is_plain text ≡ true
+version_chars text h = plain_from text (sound_from text h).chars
+
+dot_of_dash : (b : ℕ) → (underscored (to_ascii_lowercase b) == dot) ≡ (b == dot)
+dot_of_dash b = grind (arith, nat_tests)
+
+dot_of_small : (b : ℕ) → (to_ascii_lowercase b == dot) ≡ (b == dot)
+dot_of_small b = grind (arith, nat_tests)
+
+ends_mapped : (f : ℕ → ℕ) → ((b : ℕ) → (f b == dot) ≡ (b == dot)) → (xs : List ℕ) → ends_with dot (map f xs) ≡ ends_with dot xs
+ends_mapped f same [] = refl
+ends_mapped f same (x ∷ []) = same x
+ends_mapped f same (x ∷ y ∷ xs) = ends_step dot (f x) (f y) (map f xs) ∙ ends_mapped f same (y ∷ xs) ∙ sym (ends_step dot x y xs)
+
+pub version_end : (text : List ℕ) → offence text ≡ None → ends_with dot text ≡ false
+version_end text h = sym (by_dash (holds dash text && not (holds underscore text))) ∙ (version_again (plain text) (meaning text) (version_sound (plain text) h)).ends
+  where
+    by_dash : (k : Bool) → ends_with dot (if k then map (λ b. underscored (to_ascii_lowercase b)) text else map to_ascii_lowercase text) ≡ ends_with dot text
+    by_dash true = ends_mapped (λ b. underscored (to_ascii_lowercase b)) dot_of_dash text
+    by_dash false = ends_mapped to_ascii_lowercase dot_of_small text
+
+-- what two texts of the grammar mean decides
+pub order_means : (x y : List ℕ) (v w : Meaning) → IsVersionText x v → IsVersionText y w → version_cmp x y ≡ meaning_cmp v w
+order_means x y v w h k = ap (λ a. meaning_cmp a (meaning y)) (version_again (plain x) v h).value ∙ ap (meaning_cmp v) (version_again (plain y) w k).value
+
+pub starts_means : (x y : List ℕ) (v w : Meaning) → IsVersionText x v → IsVersionText y w → version_starts x y ≡ meaning_starts v w
+starts_means x y v w h k = ap (λ a. meaning_starts a (meaning y)) (version_again (plain x) v h).value ∙ ap (meaning_starts v) (version_again (plain y) w k).value
