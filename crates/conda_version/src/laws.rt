@@ -10,6 +10,8 @@ ghost use Rattle.conda_version.specs.Order.{meaning_cmp, meaning_starts, version
 ghost use Rattle.conda_version.specs.Text.{plain, trimmed};
 ghost use Rattle.conda_version.specs.Versions.{IsVersionText, Meaning};
 
+use conda_base::cut_laws;
+
 /// The order of versions is a total preorder: versions that it finds equal may have other texts. It is the order of
 /// what the texts mean by the grammar: of epoch and main part, and of the local parts where these are equal.
 /// Which version starts with which goes by what they mean too.
@@ -20,7 +22,9 @@ pub fn order_laws()
     ensures transitive { (u v w : List ℕ) → is_le (version_cmp u v) ≡ true → is_le (version_cmp v w) ≡ true → is_le (version_cmp u w) ≡ true }
     ensures total { (v w : List ℕ) → version_cmp v w ≡ ordering_reverse (version_cmp w v) }
     ensures equals { (u v w : List ℕ) → version_cmp u v ≡ Equal → version_cmp u w ≡ version_cmp v w }
-{}
+{
+    cut_laws();
+}
 
 /// A text is what is trimmed with spaces around it, and nothing is trimmed of a text that neither begins nor ends
 /// with one.
@@ -37,4 +41,6 @@ pub fn grammar_laws()
     ensures only { (text : List ℕ) (version : Meaning) → IsVersionText text version → (offence text ≡ None) × (meaning text ≡ version) }
     ensures chars { (text : List ℕ) → offence text ≡ None → list_all is_plain (plain text) ≡ true }
     ensures end { (text : List ℕ) → offence text ≡ None → ends_with dot text ≡ false }
-{}
+{
+    cut_laws();
+}
