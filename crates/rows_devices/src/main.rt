@@ -1,6 +1,8 @@
 //! The rows of the devices and of the machine over events.
 #![tactic(auto)]
 
+mod core;
+
 use conda_base::Text;
 use rows_text::{Table, print_rows};
 use std::alloc::{AllocError, Global};
@@ -11,11 +13,11 @@ struct Devices;
 impl Table for Devices {
     fn answer(
         &self,
-        _alloc: Global,
-        _call: &str,
-        _arguments: &[Text],
+        alloc: Global,
+        call: &str,
+        arguments: &[Text],
     ) -> Result<Option<String>, AllocError> {
-        Ok(None)
+        core::answer(alloc, call, arguments)
     }
 }
 

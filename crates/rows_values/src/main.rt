@@ -2,7 +2,11 @@
 #![tactic(auto)]
 
 mod base;
+mod history;
+mod json;
 mod path;
+mod prefix;
+mod version;
 
 use conda_base::Text;
 use rows_text::{Table, print_rows};
@@ -24,7 +28,16 @@ impl Table for Values {
         if let Some(answer) = path::answer(alloc, call, arguments)? {
             return Ok(Some(answer));
         }
-        Ok(None)
+        if let Some(answer) = version::answer(alloc, call, arguments)? {
+            return Ok(Some(answer));
+        }
+        if let Some(answer) = history::answer(alloc, call, arguments)? {
+            return Ok(Some(answer));
+        }
+        if let Some(answer) = json::answer(alloc, call, arguments)? {
+            return Ok(Some(answer));
+        }
+        prefix::answer(alloc, call, arguments)
     }
 }
 
