@@ -1,5 +1,5 @@
 -- Runs of digits and words by turns: those of a text, and that a text has no others.
-use Rattle.std.proofs.Common.{◌≡◌, ℕ, zero, suc, ◌+◌, ◌<◌, ◌≤◌, Bool, true, false, cond, ◌&&◌, List, [], ◌∷◌, ◌++◌, length, take, drop, map, refl, sym, ap, subst, ◌∙◌, arith, length-drop}
+use Rattle.std.proofs.Common.{◌≡◌, ℕ, zero, suc, ◌+◌, ◌<◌, ◌≤◌, Bool, true, false, cond, List, [], ◌∷◌, ◌++◌, length, take, drop, map, refl, sym, ap, subst, ◌∙◌, arith, length-drop}
 use Rattle.std.proofs.lemmas.Bool.{and_from, and_parts}
 use Rattle.std.proofs.lemmas.Bool.Decides.{nat_tests}
 use Rattle.std.proofs.lemmas.List.{take-append-drop}
@@ -12,8 +12,8 @@ use Rattle.std.specs.Str.{all_ascii_digits}
 use Rattle.conda_base.specs.Numbers.{is_digits}
 use Rattle.conda_version.specs.declared.run.Run.{Run}
 use Rattle.conda_version.specs.Grammar.{HasShortRuns, component_of, joined, run_len, runs_of}
-use Rattle.conda_version.specs.Versions.{IsComponent, IsNumeral, IsRun, IsWord, TakeTurns, begins_with_digit, is_letter, run_of, with_zero}
-use Rattle.conda_version.proofs.RunLemmas.{all_digits, all_of_prefix, OtherKind, beq_self, digits_are_all, first_run_value, kind_is, like, run_front, run_some, runs_first, short_of_drop, stops}
+use Rattle.conda_version.specs.Versions.{IsComponent, IsRun, TakeTurns, begins_with_digit, is_letter, run_of, with_zero}
+use Rattle.conda_version.proofs.RunLemmas.{all_digits, all_of_prefix, OtherKind, beq_self, first_run_value, kind_is, like, run_front, run_some, runs_first, short_of_drop, stops}
 
 -- a character of a component
 abbrev pub is_piece_char : ℕ → Bool

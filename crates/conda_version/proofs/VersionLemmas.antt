@@ -1,15 +1,14 @@
 -- What is read is in the grammar of versions, and what is in the grammar is read.
-use Rattle.std.proofs.Common.{◌≡◌, ℕ, zero, suc, ◌+◌, ◌-◌, ◌<◌, ◌≤◌, Bool, true, false, cond, ◌&&◌, List, [], ◌∷◌, ◌++◌, length, drop, map, Option, None, Some, refl, sym, ap, subst, ◌∙◌, arith, append_assoc, length-drop}
+use Rattle.std.proofs.Common.{◌≡◌, ℕ, suc, ◌+◌, ◌-◌, ◌<◌, ◌≤◌, Bool, true, false, cond, ◌&&◌, List, [], ◌∷◌, ◌++◌, length, drop, map, Option, None, Some, refl, sym, ap, subst, ◌∙◌, arith, append_assoc, length-drop}
 use Rattle.std.proofs.lemmas.List.Sums.{prefix_len-le-length}
 use Rattle.std.proofs.lemmas.Bool.{and_from, and_parts}
 use Rattle.std.proofs.lemmas.Bool.Decides.{nat_tests}
 use Rattle.std.proofs.lemmas.List.{append-nil}
 use Rattle.std.proofs.lemmas.List.Splits.{join_with_byte-slice_split, length-slice_split, slice_split-cons_no}
-use Rattle.std.specs.Prelude.{IfSome, slice_get, nat_lt, not, ◌==◌, ◌||◌, if◌then◌else◌}
+use Rattle.std.specs.Prelude.{IfSome, nat_lt, not, ◌==◌, ◌||◌, if◌then◌else◌}
 use Rattle.std.specs.Char.{is_ascii_digit, to_ascii_lowercase}
-use Rattle.std.specs.List.{AllByRecursion, count_by, join_with_byte, list_all, onto_first, position, prefix_len, slice_split}
+use Rattle.std.specs.List.{AllByRecursion, join_with_byte, list_all, onto_first, prefix_len}
 use Rattle.std.specs.Option.{option_map, option_map_or, option_and_then, option_or}
-use Rattle.std.specs.Str.{all_ascii_digits}
 use Rattle.std.specs.Str.Parse.{digits_value}
 use Rattle.conda_base.specs.Numbers.{is_digits}
 use Rattle.conda_base.specs.Signs.{dash, dot, exclamation, plus, underscore}
@@ -17,15 +16,15 @@ use Rattle.conda_base.specs.Texts.{IsFreeOf, cut_first, ends_with, is_byte, is_e
 use Rattle.conda_version.specs.declared.error.VersionWhy.{VersionWhy}
 use Rattle.conda_version.specs.declared.error.VersionWhy.TheVariants.{Empty, Char, Epoch, Local, Component, Numeral}
 use Rattle.conda_version.specs.declared.run.Run.{Run}
-use Rattle.conda_version.specs.Grammar.{HasShortRuns, because, behind_epoch, char_fault, component_fault, component_of, components_of, empty_fault, empty_from, empty_local, epoch_fault, epoch_of, epoch_part, fault, fault_at_epoch, fault_at_local, is_part_char, is_plain, local_fault, local_of, local_part, main_part, main_start, mark_from, marks_fault, meaning, numeral_from, offence, pieces, plain_meaning}
-use Rattle.conda_version.specs.Versions.{AreComponents, IsComponent, IsEpoch, IsLocal, IsNumeral, IsVersion, IsVersionText, Meaning, as_dot, epoch_text, local_text, main_dots}
+use Rattle.conda_version.specs.Grammar.{HasShortRuns, because, behind_epoch, char_fault, component_fault, component_of, components_of, empty_fault, empty_from, empty_local, epoch_fault, epoch_part, fault, fault_at_epoch, fault_at_local, is_part_char, is_plain, local_fault, local_part, main_part, main_start, mark_from, marks_fault, meaning, numeral_from, offence, pieces, plain_meaning}
+use Rattle.conda_version.specs.Versions.{AreComponents, IsEpoch, IsLocal, IsNumeral, IsVersion, IsVersionText, Meaning, as_dot, epoch_text, local_text, main_dots}
 use Rattle.conda_version.specs.Order.{meaning_cmp, meaning_starts, version_cmp, version_starts}
 use Rattle.conda_version.specs.Text.{holds, plain, underscored}
 use Rattle.conda_version.proofs.CutLemmas.{Cuts, place_of_free}
 use Rattle.conda_version.proofs.PartLemmas.{epoch_sound, local_sound, parts_whole, rest_is, short_epoch, short_local, short_main}
-use Rattle.conda_version.proofs.RunLemmas.{all_digits, digits_are_all, prefix_of_dots, prefix_of_main_dots, short_back, short_digits, short_from_none, short_front}
+use Rattle.conda_version.proofs.RunLemmas.{all_digits, digits_are_all, prefix_of_dots, prefix_of_main_dots, short_back, short_from_none, short_front}
 use Rattle.conda_version.proofs.TextLemmas.{ends_back, ends_step}
-use Rattle.conda_version.proofs.TurnLemmas.{IsPiece, all_as, all_both, all_front, component_again, component_sound, is_piece_char, short_before}
+use Rattle.conda_version.proofs.TurnLemmas.{all_as, all_both, all_front, component_again, component_sound, is_piece_char, short_before}
 
 abbrev first_half : List ℕ × List ℕ → List ℕ
 first_half halves = halves.0
