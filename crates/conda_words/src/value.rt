@@ -1,5 +1,6 @@
-ghost use Rattle.std.specs.Prelude.{◌≡◌, IfOk, MatchOption, map};
+ghost use Rattle.std.specs.Prelude.{◌≡◌, IfOk};
 ghost use Rattle.std.specs.List.{after_first, before_first, list_all};
+ghost use Rattle.conda_base.specs.Texts.{is_byte};
 ghost use Rattle.conda_version.specs.Text.{holds};
 ghost use Rattle.conda_words.specs.Values as values;
 
@@ -76,8 +77,8 @@ pub fn is_channel(name: &str) -> bool
 
 /// What stands before the first `=` and behind it; the whole and nothing, where there is none.
 pub fn cut_at_equals(text: &str) -> (&str, &str)
-    ensures before { result.0.now ≡ before_first values.is_equals text.now }
-    ensures behind { result.1.now ≡ after_first values.is_equals text.now }
+    ensures before { result.0.now ≡ before_first (is_byte 61) text.now }
+    ensures behind { result.1.now ≡ after_first (is_byte 61) text.now }
 {
     match text.split_once('=') {
         Some((before, behind)) => (before, behind),
@@ -136,7 +137,7 @@ pub fn virtual_of(alloc: Global, value: &str) -> Result<Virtual, AllocError>
 {
     let (name, version) = cut_at_equals(value);
     Ok(Virtual {
-        name: Text::from_string(name.to_ascii_lowercase(alloc)?),
+        name: Text::from_str(alloc, name)?,
         version: Text::from_str(alloc, trimmed(version))?,
     })
 }
