@@ -45,12 +45,12 @@ abbrev pub is_nested : List ℕ → List ℕ → Bool
 is_nested a b = is_inside a b || is_inside b a
 
 -- the number, within bounds
+abbrev pub numbered : ℕ → Option ℕ → Read ℕ Fault
+numbered at None = Err (at, whys.Number)
+numbered at (Some n) = Ok n
+
 abbrev pub number_at : ℕ → ℕ → ℕ → List ℕ → Read ℕ Fault
 number_at at low high value = numbered at (number_in low high value)
-  where
-    abbrev pub numbered : ℕ → Option ℕ → Read ℕ Fault
-    numbered at None = Err (at, whys.Number)
-    numbered at (Some n) = Ok n
 
 -- ---- a reading with one more value, which stands at a place
 
@@ -94,13 +94,13 @@ with_channel r at value =
     if is_among value r.command.channels then Err (at, whys.Twice)
     else if not (is_channel value) then Err (at, whys.Channel)
     else if nat_lt (length r.command.channels) 8 then
-      Ok (record r { command = record r.command { channels = r.command.channels ++ value ∷ [] } })
+    Ok (record r { command = record r.command { channels = r.command.channels ++ value ∷ [] } })
     else Err (at, whys.Limit)
 
 abbrev pub with_virtual : Reading → ℕ → List ℕ → Read Reading Fault
 with_virtual r at value =
     if is_virtual value then
-      Ok (record r { command = record r.command { virtuals = r.command.virtuals ++ virtual_of value ∷ [] } })
+    Ok (record r { command = record r.command { virtuals = r.command.virtuals ++ virtual_of value ∷ [] } })
     else Err (at, whys.Unknown)
 
 -- what a word, or the value of an option of each kind, says; these items stand before it
@@ -139,12 +139,17 @@ with_items sub before r (i ∷ is) = with_item sub before r i >>= (λ next. with
 abbrev pub settled : Subcommand → List Item → Subcommand
 settled sub is = if given kinds.Revision is then record sub { words = Nothing } else sub
 
+-- the command should have one prefix and hasn't
+abbrev pub lacks_prefix : Command → Bool
+lacks_prefix c = has_one_prefix c.verb && not (length c.prefixes == 1)
+
+abbrev pub lacks_value : List Item → Bool
+lacks_value is = list_any (λ i. is_none i.value) is
+
 -- a value, the prefix or a word
 abbrev pub lacks : Subcommand → List Item → Reading → Bool
 lacks sub is r =
-    list_any (λ i. is_none i.value) is
-    || (has_one_prefix r.command.verb && not (length r.command.prefixes == 1))
-    || nat_lt (count kinds.Word is) (least sub.words)
+    lacks_value is || lacks_prefix r.command || nat_lt (count kinds.Word is) (least sub.words)
 
 -- what has nothing but a verb
 abbrev pub plain_command : Verb → Command
@@ -169,14 +174,16 @@ finished sub is start len =
 abbrev pub begun : Option ℕ → List (List ℕ) → Option ℕ → Verb → Reading
 begun line known nested verb = record { line = line; known = known; nested = nested; command = plain_command verb }
 
+abbrev pub named_read : Option ℕ → List (List ℕ) → Option ℕ → Option Subcommand → List (List ℕ) → Read Reading Fault
+named_read line known nested None words = Err (0, whys.Unknown)
+named_read line known nested (Some sub) words =
+    finished (settled sub (items sub false 1 words)) (items sub false 1 words) (begun line known nested sub.verb)
+    (length words + 1)
+
 unfoldable pub command_read : Option ℕ → List (List ℕ) → Option ℕ → List (List ℕ) → Read Reading Fault
 command_read line known nested [] = Err (0, whys.Missing)
-command_read line known nested (name ∷ words) = by_row (subcommand_of (is_some line) name)
-  where
-    abbrev pub by_row : Option Subcommand → Read Reading Fault
-    by_row None = Err (0, whys.Unknown)
-    by_row (Some sub) =
-        finished (settled sub (items sub false 1 words)) (items sub false 1 words) (begun line known nested sub.verb) (length words + 1)
+command_read line known nested (name ∷ words) =
+    named_read line known nested (subcommand_of (is_some line) name) words
 
 -- What words mean: the command, or the first fault from the left; then what is missing; then what is nested.
 unfoldable pub words_read : List (List ℕ) → Read Command Fault

@@ -3,7 +3,7 @@ use Rattle.std.specs.Prelude.{ℕ, ◌+◌, Bool, true, ◌==◌, nat_lt, if◌t
 use Rattle.std.specs.List.{slice_split}
 use Rattle.conda_base.specs.Reads.{Read, ◌>>=◌, unless}
 use Rattle.conda_base.specs.Signs.{hash, newline, space}
-use Rattle.conda_base.specs.Texts.{begins_with, is_empty}
+use Rattle.conda_base.specs.Texts.{is_byte, is_empty}
 use Rattle.conda_words.specs.Reading.{Fault, command_read}
 use Rattle.conda_words.specs.Values.{number_in}
 use Rattle.conda_words.specs.declared.command.Line.{Line}
@@ -16,7 +16,7 @@ use Rattle.conda_words.specs.declared.script.Script.{Script}
 
 -- the parts of a text between such bytes
 abbrev pub parted : ℕ → List ℕ → List (List ℕ)
-parted mark text = slice_split (λ b. b == mark) text
+parted mark text = slice_split (is_byte mark) text
 
 -- a text without the newline at its end, if it has one there
 abbrev pub without_newline : List ℕ → List ℕ

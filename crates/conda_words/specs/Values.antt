@@ -1,28 +1,17 @@
 -- What the values of options are. This project's own.
-use Rattle.std.specs.Prelude.{ℕ, ◌+◌, ◌*◌, ◌-◌, ◌^◌, Bool, false, ◌&&◌, ◌||◌, ◌==◌, not, nat_lt, nat_le, nat_eq, if◌then◌else◌, List, [], ◌∷◌, length, codes, Option, None, Some, is_none, option_and_then}
-use Rattle.std.specs.Char.{is_ascii_alphanumeric, is_ascii_digit}
+use Rattle.std.specs.Prelude.{ℕ, ◌+◌, Bool, ◌&&◌, ◌||◌, ◌==◌, not, nat_lt, nat_le, nat_eq, if◌then◌else◌, List, length, codes, Option, None, Some, is_ok, option_and_then}
+use Rattle.std.specs.Char.{is_ascii_alphanumeric}
 use Rattle.std.specs.List.{after_first, before_first, list_all, starts_with}
-use Rattle.conda_base.specs.Signs.{dash, digit_zero, dot, equals, underscore}
+use Rattle.conda_base.specs.Numbers.{number_below}
+use Rattle.conda_base.specs.Signs.{dash, dot, equals, underscore}
 use Rattle.conda_base.specs.Texts.{begins_with, is_byte}
-use Rattle.conda_version.specs.Grammar.{offence}
+use Rattle.conda_version.specs.Grammar.{version_read}
 use Rattle.conda_version.specs.Text.{holds, trimmed}
 use Rattle.conda_words.specs.declared.command.Virtual.{Virtual}
 
--- the number that goes on with these digits, if it stays below 2^32
-abbrev pub number_from : ℕ → List ℕ → Option ℕ
-number_from n [] = Some n
-number_from n (d ∷ rest) =
-    if is_ascii_digit d && nat_lt (n * 10 + (d - digit_zero)) (2 ^ 32) then number_from (n * 10 + (d - digit_zero)) rest else None
-
--- the number below 2^32 that this is, in decimal without a leading zero
-abbrev pub number_of : List ℕ → Option ℕ
-number_of [] = None
-number_of (d ∷ []) = number_from 0 (d ∷ [])
-number_of (d ∷ e ∷ rest) = if d == digit_zero then None else number_from 0 (d ∷ e ∷ rest)
-
--- the number, where it lies in a range
+-- the number of which this is the decimal text, without a leading zero, where it lies in a range
 abbrev pub number_in : ℕ → ℕ → List ℕ → Option ℕ
-number_in low high text = option_and_then (λ n. if nat_le low n && nat_le n high then Some n else None) (number_of text)
+number_in low high text = option_and_then (λ n. if nat_le low n then Some n else None) (number_below (high + 1) text)
 
 -- a letter, a digit, `_`, `-` or `.`
 abbrev pub is_name_byte : ℕ → Bool
@@ -46,7 +35,7 @@ is_virtual_name name = starts_with nat_eq name (codes "__") && list_all is_name_
 
 -- a version without `-`
 abbrev pub is_virtual_version : List ℕ → Bool
-is_virtual_version text = is_none (offence (trimmed text)) && not (holds dash (trimmed text))
+is_virtual_version text = is_ok (version_read text) && not (holds dash text)
 
 -- a virtual package, of which `NAME-VERSION-0` has at most 255 bytes
 abbrev pub is_virtual : List ℕ → Bool

@@ -1,4 +1,4 @@
-ghost use Rattle.std.specs.Prelude.{◌≡◌, ◌+◌, ◌<◌, ◌^◌, [], ◌∷◌, IfOk, MatchOption, None, Some, option_map};
+ghost use Rattle.std.specs.Prelude.{◌≡◌, ◌+◌, ◌<◌, ◌^◌, [], ◌∷◌, IfOk, MatchOption, None, Some, false, option_map};
 ghost use Rattle.conda_base.specs.Texts.{begins_with};
 ghost use Rattle.conda_version.specs.Text.{holds};
 ghost use Rattle.conda_words.specs.Cut as cuts;
@@ -119,7 +119,7 @@ fn valued_item(
     next: Option<&str>,
 ) -> Result<Item, AllocError>
     requires { at + 1 < 2 ^ 64 }
-    ensures { IfOk result (λ made. made ≡ cuts.valued_item (seen row) at word.now (option_map (λ v. v.now) next)) }
+    ensures { IfOk result (λ made. made ≡ cuts.valued_item (seen row) at word.now (option_map (λ v. v.now) next.entry)) }
 {
     let value = match next {
         Some(value) => Some(Text::from_str(alloc, value)?),

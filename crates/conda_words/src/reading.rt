@@ -316,14 +316,30 @@ fn settled(row: Row, items: &[Item]) -> Row
     }
 }
 
+/// Whether the command should have one prefix and hasn't.
+fn lacks_prefix(command: &Command) -> bool
+    ensures { result ≡ reads.lacks_prefix command.now }
+{
+    has_one_prefix(command.verb) && command.prefixes.len() != 1
+}
+
+fn lacks_value(items: &[Item]) -> bool
+    ensures { result ≡ reads.lacks_value items.now }
+{
+    items.iter().any(|item| item.value.is_none())
+}
+
 /// Whether a value, the prefix or a word is missing.
 fn lacks(row: Row, items: &[Item], reading: &Reading) -> bool
     ensures { result ≡ reads.lacks (seen row) items.now reading.now }
 {
-    let command = &reading.command;
-    items.iter().any(|item| item.value.is_none())
-        || has_one_prefix(command.verb) && command.prefixes.len() != 1
-        || count(Kind::Word, items) < least(row.words)
+    if lacks_value(items) {
+        return true;
+    }
+    if lacks_prefix(&reading.command) {
+        return true;
+    }
+    count(Kind::Word, items) < least(row.words)
 }
 
 /// The command that has nothing but a verb.

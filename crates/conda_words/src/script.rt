@@ -1,4 +1,4 @@
-ghost use Rattle.std.specs.Prelude.{◌≡◌, ◌<◌, ◌≤◌, [], ◌∷◌, ◌++◌, IfErr, IfOk, IfSome, IsUtf8, MatchOption, length, position};
+ghost use Rattle.std.specs.Prelude.{◌≡◌, ◌<◌, ◌≤◌, IfErr, IfOk, IfSome, position};
 ghost use Rattle.conda_base.specs.Reads.{Gives};
 ghost use Rattle.conda_base.specs.Texts.{is_empty};
 ghost use Rattle.conda_words.specs.Reading.{words_fault_of};
@@ -10,7 +10,7 @@ use crate::cut::first_word;
 use crate::error::{Why, WordsErr};
 use crate::reading::{Reading, read_command};
 use crate::value::number_in;
-use conda_base::{Rows, Text};
+use conda_base::{Rows, Text, cut_first, cut_laws};
 use conda_path::Prefix;
 use std::alloc::{AllocError, Global};
 
@@ -26,24 +26,15 @@ pub struct Script {
     pub nested: Option<usize>,
 }
 
-/// The part before the first such character and what stands behind it.
-fn next_part(text: &str, mark: char) -> Option<(&str, &str)>
-    requires { mark < 128 }
-    ensures part { MatchOption result (scripts.parted mark text.now ≡ text.now ∷ []) (λ cut. scripts.parted mark text.now ≡ cut.0.now ∷ scripts.parted mark cut.1.now) }
-    ensures shorter { IfSome result (λ cut. length cut.1.now < length text.now) }
-    ensures utf8 { IfSome result (λ cut. IsUtf8 cut.0.now × IsUtf8 cut.1.now) }
-{
-    text.split_once(mark)
-}
-
 /// The parts of a text between such characters.
-fn parts_of(alloc: Global, text: &str, mark: char) -> Result<Vec<Text>, AllocError>
+fn parts_of(alloc: Global, text: &str, mark: u8) -> Result<Vec<Text>, AllocError>
     requires { mark < 128 }
     ensures { IfOk result (λ made. made.items ≡ scripts.parted mark text.now) }
 {
     let mut made = Vec::new(alloc);
     let mut left = text;
-    while let Some((part, rest)) = next_part(left, mark) {
+    cut_laws();
+    while let Some((part, rest)) = cut_first(left, mark) {
         let part = Text::from_str(alloc, part)?;
         made.push(part)?;
         left = rest;
@@ -159,7 +150,7 @@ fn with_line(alloc: Global, n: usize, script: Script, line: &str) -> Result<Scri
     if is_passed(line) {
         return Ok(script);
     }
-    let fields = parts_of(alloc, line, ' ')?;
+    let fields = parts_of(alloc, line, b' ')?;
     with_fields(alloc, n, script, fields.as_slice())
 }
 
@@ -181,7 +172,7 @@ fn with_lines(alloc: Global, script: Script, lines: &[Text]) -> Result<Script, W
 fn read_lines(alloc: Global, text: &str) -> Result<Rows<Line>, WordsErr>
     ensures { Gives words_fault_of result (script_read text.now) }
 {
-    let lines = parts_of(alloc, without_newline(text), '\n')?;
+    let lines = parts_of(alloc, without_newline(text), b'\n')?;
     let start = Script {
         lines: Rows::new(alloc),
         known: Rows::new(alloc),

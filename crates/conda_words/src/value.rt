@@ -5,44 +5,19 @@ ghost use Rattle.conda_version.specs.Text.{holds};
 ghost use Rattle.conda_words.specs.Values as values;
 
 use crate::command::Virtual;
-use conda_base::Text;
+use conda_base::{Text, read_number};
 use conda_version::{Version, VersionErr, trimmed};
 use std::alloc::{AllocError, Global};
 
-/// The number that goes on with these digits, if they are digits and it stays below 2^32.
-fn number_from(digits: &[u8]) -> Option<u32>
-    ensures { result ≡ values.number_from 0 digits.now }
-{
-    let mut number: u32 = 0;
-    for digit in digits {
-        if !digit.is_ascii_digit() {
-            return None;
-        }
-        number = number
-            .checked_mul(10)?
-            .checked_add(u32::from(*digit - b'0'))?;
-    }
-    Some(number)
-}
-
-/// The number below 2^32 that the text is, in decimal without a leading zero.
-pub fn number_of(text: &str) -> Option<u32>
-    ensures { result ≡ values.number_of text.now }
-{
-    match text.as_bytes() {
-        [] => None,
-        [b'0', _, ..] => None,
-        digits => number_from(digits),
-    }
-}
-
-/// The number, where it lies in a range.
+/// The number of which the text is the decimal form, without a leading zero, where it lies in a range.
 pub fn number_in(low: u32, high: u32, text: &str) -> Option<u32>
     ensures { result ≡ values.number_in low high text.now }
 {
-    match number_of(text) {
-        Some(n) => { if low <= n && n <= high { Some(n) } else { None } }
-        None => None,
+    let n = read_number(text.as_bytes(), u64::from(high) + 1)?;
+    if u64::from(low) <= n {
+        Some(n as u32)
+    } else {
+        None
     }
 }
 
@@ -104,7 +79,7 @@ fn is_virtual_version(alloc: Global, text: &str) -> Result<bool, AllocError>
     ensures { IfOk result (λ good. good ≡ values.is_virtual_version text.now) }
 {
     match Version::read(alloc, text) {
-        Ok(version) => Ok(!holds_dash(version.text())),
+        Ok(_) => Ok(!holds_dash(text)),
         Err(VersionErr::BadVersion { .. }) => Ok(false),
         Err(VersionErr::Memory) => Err(AllocError),
     }
