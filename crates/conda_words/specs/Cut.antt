@@ -1,10 +1,9 @@
 -- How words are cut into items: plain words, and options with their values. This project's own.
 use Rattle.std.specs.Prelude.{ℕ, ◌+◌, Bool, true, false, ◌&&◌, ◌||◌, not, if◌then◌else◌, List, [], ◌∷◌, codes, count_by, Option, None, Some}
-use Rattle.std.specs.List.{after_first, before_first, filter_map, list_any}
+use Rattle.std.specs.List.{list_any}
 use Rattle.std.specs.Str.{bytes_eq}
 use Rattle.conda_base.specs.Signs.{dash, equals}
-use Rattle.conda_base.specs.Texts.{begins_with, is_byte}
-use Rattle.conda_version.specs.Text.{holds}
+use Rattle.conda_base.specs.Texts.{begins_with, cut_first}
 use Rattle.conda_words.specs.Table.{Subcommand, has_value, is_kind, is_long, own_option}
 use Rattle.conda_words.specs.declared.cut.Item.{Item}
 use Rattle.conda_words.specs.declared.table.Kind.{Kind}
@@ -35,20 +34,18 @@ takes_next sub plain word = not plain && has_value (own_option sub word)
 abbrev pub is_plain : Bool → List ℕ → Bool
 is_plain plain word = plain || not (begins_with dash word)
 
--- `--OPTION=VALUE`
+-- a word that begins with `-`, by itself: a flag, or `--OPTION=VALUE`, cut at the first `=`
 abbrev pub long_option : Kind → Kind
 long_option kind = if is_long kind then kind else kinds.Strange
 
-abbrev pub long_item : Subcommand → ℕ → List ℕ → Item
-long_item sub at word =
-    item (long_option (own_option sub (before_first (is_byte equals) word))) at at (Some (after_first (is_byte equals) word))
+abbrev pub dashed_item : Subcommand → ℕ → List ℕ → Option (List ℕ × List ℕ) → Item
+dashed_item sub at word None = item (own_option sub word) at at (Some [])
+dashed_item sub at word (Some halves) = item (long_option (own_option sub halves.0)) at at (Some halves.1)
 
 -- the item that a word is by itself
 abbrev pub own_item : Subcommand → Bool → ℕ → List ℕ → Item
 own_item sub plain at word =
-    if is_plain plain word then item kinds.Word at at (Some word)
-    else if holds equals word then long_item sub at word
-    else item (own_option sub word) at at (Some [])
+    if is_plain plain word then item kinds.Word at at (Some word) else dashed_item sub at word (cut_first equals word)
 
 -- an option with the next word as its value, if there is one
 abbrev pub valued_item : Subcommand → ℕ → List ℕ → Option (List ℕ) → Item

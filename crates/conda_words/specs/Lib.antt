@@ -3,3 +3,4 @@ pub mod Values
 pub mod Cut
 pub mod Reading
 pub mod Scripts
+pub mod Grammar

@@ -1,12 +1,11 @@
 ghost use Rattle.std.specs.Prelude.{◌≡◌, ◌+◌, ◌<◌, ◌^◌, [], ◌∷◌, IfOk, MatchOption, None, Some, false, option_map};
+ghost use Rattle.conda_base.specs.Texts as texts;
 ghost use Rattle.conda_base.specs.Texts.{begins_with};
-ghost use Rattle.conda_version.specs.Text.{holds};
 ghost use Rattle.conda_words.specs.Cut as cuts;
 ghost use Rattle.conda_words.specs.Table.{seen};
 
 use crate::table::{Kind, Row, has_value, is_long, own_option};
-use crate::value::cut_at_equals;
-use conda_base::Text;
+use conda_base::{Text, cut_first};
 use std::alloc::{AllocError, Global};
 
 /// A plain word, or an option with its value.
@@ -44,12 +43,6 @@ fn begins_with_dash(word: &str) -> bool
     }
 }
 
-fn holds_equals(word: &str) -> bool
-    ensures { result ≡ holds 61 word.now }
-{
-    word.as_bytes().contains(&b'=')
-}
-
 /// An item that is one word.
 fn word_item(alloc: Global, kind: Kind, at: usize, value: &str) -> Result<Item, AllocError>
     ensures { IfOk result (λ made. made ≡ cuts.item kind at at (Some value.now)) }
@@ -63,11 +56,13 @@ fn word_item(alloc: Global, kind: Kind, at: usize, value: &str) -> Result<Item, 
     })
 }
 
-/// `--OPTION=VALUE`
-fn long_item(alloc: Global, row: Row, at: usize, word: &str) -> Result<Item, AllocError>
-    ensures { IfOk result (λ made. made ≡ cuts.long_item (seen row) at word.now) }
+/// A word that begins with `-`, by itself: a flag, or `--OPTION=VALUE`, cut at the first `=`.
+fn dashed_item(alloc: Global, row: Row, at: usize, word: &str) -> Result<Item, AllocError>
+    ensures { IfOk result (λ made. made ≡ cuts.dashed_item (seen row) at word.now (texts.cut_first 61 word.now)) }
 {
-    let (name, value) = cut_at_equals(word);
+    let Some((name, value)) = cut_first(word, b'=') else {
+        return word_item(alloc, own_option(row, word), at, "");
+    };
     let kind = own_option(row, name);
     if is_long(kind) {
         return word_item(alloc, kind, at, value);
@@ -82,10 +77,7 @@ fn own_item(alloc: Global, row: Row, plain: bool, at: usize, word: &str) -> Resu
     if plain || !begins_with_dash(word) {
         return word_item(alloc, Kind::Word, at, word);
     }
-    if holds_equals(word) {
-        return long_item(alloc, row, at, word);
-    }
-    word_item(alloc, own_option(row, word), at, "")
+    dashed_item(alloc, row, at, word)
 }
 
 fn takes_next(row: Row, plain: bool, word: &str) -> bool

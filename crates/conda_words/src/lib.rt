@@ -5,6 +5,7 @@
 mod command;
 mod cut;
 mod error;
+mod laws;
 mod reading;
 mod script;
 mod table;
@@ -13,5 +14,6 @@ mod words;
 
 pub use command::{Command, Line, Verb, Virtual};
 pub use error::{Why, WordsErr};
+pub use laws::{script_law, words_laws};
 pub use script::read_script;
 pub use words::read_words;

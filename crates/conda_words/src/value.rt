@@ -51,7 +51,7 @@ pub fn is_channel(name: &str) -> bool
 }
 
 /// What stands before the first `=` and behind it; the whole and nothing, where there is none.
-pub fn cut_at_equals(text: &str) -> (&str, &str)
+fn cut_at_equals(text: &str) -> (&str, &str)
     ensures before { result.0.now ≡ before_first (is_byte 61) text.now }
     ensures behind { result.1.now ≡ after_first (is_byte 61) text.now }
 {
