@@ -68,13 +68,27 @@ pub record IsFirstBad (sub : Subcommand) (start : Reading) (is : List Item) (at 
   pub right : with_items sub [] start front ≡ Ok before
   pub wrong : with_item sub front before bad ≡ Err (at, why)
 
--- of a subcommand with these items and so many words: a bad item; then, behind the last word, what is missing; then
--- the first prefix that lies inside or round an earlier one
+-- all items are right, and behind the last of so many words something is missing
+pub record IsLacking (sub : Subcommand) (start : Reading) (is : List Item) (len at : ℕ) (why : Why) : Type 0 where
+  pub last : Reading
+  pub right : with_items sub [] start is ≡ Ok last
+  pub lacking : lacks sub is last ≡ true
+  pub place : at ≡ len
+  pub cause : why ≡ whys.Missing
+
+-- nothing is missing, and this is the first prefix that lies inside or round a different earlier one
+pub record IsNestedAt (sub : Subcommand) (start : Reading) (is : List Item) (at : ℕ) (why : Why) : Type 0 where
+  pub last : Reading
+  pub right : with_items sub [] start is ≡ Ok last
+  pub whole : lacks sub is last ≡ false
+  pub place : last.nested ≡ Some at
+  pub cause : why ≡ whys.Nested
+
+-- of a subcommand with these items and so many words: a bad item; then what is missing; then what is nested
 abbrev pub HasItemFault : Subcommand → List Item → ℕ → ℕ → Why → Type 0
 HasItemFault sub is len at why =
     IsFirstBad (settled sub is) (begin sub) is at why
-    ⊎ ((last : Reading) × (with_items (settled sub is) [] (begin sub) is ≡ Ok last) × (lacks (settled sub is) is last ≡ true) × (at ≡ len) × (why ≡ whys.Missing))
-    ⊎ ((last : Reading) × (with_items (settled sub is) [] (begin sub) is ≡ Ok last) × (lacks (settled sub is) is last ≡ false) × (last.nested ≡ Some at) × (why ≡ whys.Nested))
+    ⊎ (IsLacking (settled sub is) (begin sub) is len at why ⊎ IsNestedAt (settled sub is) (begin sub) is at why)
 
 -- no words; no subcommand; or a fault of the items
 abbrev pub HasRowFault : Option Subcommand → List (List ℕ) → ℕ → Why → Type 0
@@ -87,11 +101,23 @@ HasFault (name ∷ rest) at why = HasRowFault (subcommand_of false name) rest at
 
 -- ---- a script
 
--- The lines before the one of this number are right, and it is bad behind them; or all lines are right, and it is the
--- first of which a prefix lies inside or round a different earlier one.
+-- the lines before the one of this number are right, and it is bad behind them
+pub record IsBadLine (lines : List (List ℕ)) (n : ℕ) (why : Why) : Type 0 where
+  pub front : List (List ℕ)
+  pub line : List ℕ
+  pub behind : List (List ℕ)
+  pub before : Script
+  pub split : lines ≡ front ++ line ∷ behind
+  pub right : with_lines 1 no_lines front ≡ Ok before
+  pub place : n ≡ 1 + length front
+  pub wrong : with_line n before line ≡ Err (n, why)
+
+-- all lines are right, and it is the first of which a prefix lies inside or round a different earlier one
+pub record IsNestedLine (lines : List (List ℕ)) (n : ℕ) (why : Why) : Type 0 where
+  pub all : Script
+  pub right : with_lines 1 no_lines lines ≡ Ok all
+  pub place : all.nested ≡ Some n
+  pub cause : why ≡ whys.Nested
+
 abbrev pub IsFirstBadLine : List ℕ → ℕ → Why → Type 0
-IsFirstBadLine text n why =
-    ((front : List (List ℕ)) × (line : List ℕ) × (behind : List (List ℕ)) × (before : Script)
-    × (lines_of text ≡ front ++ line ∷ behind) × (with_lines 1 no_lines front ≡ Ok before)
-    × (n ≡ length front + 1) × (with_line n before line ≡ Err (n, why)))
-    ⊎ ((all : Script) × (with_lines 1 no_lines (lines_of text) ≡ Ok all) × (all.nested ≡ Some n) × (why ≡ whys.Nested))
+IsFirstBadLine text n why = IsBadLine (lines_of text) n why ⊎ IsNestedLine (lines_of text) n why

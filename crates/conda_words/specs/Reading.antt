@@ -165,10 +165,18 @@ plain_command verb = record {
   words = [];
 }
 
+abbrev pub missing : Bool → ℕ → Option Fault
+missing false len = None
+missing true len = Some (len, whys.Missing)
+
+abbrev pub nested_fault : Option ℕ → Option Fault
+nested_fault None = None
+nested_fault (Some at) = Some (at, whys.Nested)
+
 -- the items of a command of so many words
 unfoldable pub finished : Subcommand → List Item → Reading → ℕ → Read Reading Fault
 finished sub is start len =
-    with_items sub [] start is >>= (λ r. unless (if lacks sub is r then Some (len, whys.Missing) else None) r)
+    with_items sub [] start is >>= (λ r. unless (missing (lacks sub is r) len) r)
 
 -- where reading begins: the line of a script, the prefixes of the lines before it, and the first nested one
 abbrev pub begun : Option ℕ → List (List ℕ) → Option ℕ → Verb → Reading
@@ -187,4 +195,4 @@ command_read line known nested (name ∷ words) =
 
 -- What words mean: the command, or the first fault from the left; then what is missing; then what is nested.
 unfoldable pub words_read : List (List ℕ) → Read Command Fault
-words_read words = command_read None [] None words >>= (λ r. unless (option_map (λ at. (at, whys.Nested)) r.nested) r.command)
+words_read words = command_read None [] None words >>= (λ r. unless (nested_fault r.nested) r.command)

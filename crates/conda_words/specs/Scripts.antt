@@ -4,7 +4,7 @@ use Rattle.std.specs.List.{slice_split}
 use Rattle.conda_base.specs.Reads.{Read, ◌>>=◌, unless}
 use Rattle.conda_base.specs.Signs.{hash, newline, space}
 use Rattle.conda_base.specs.Texts.{is_byte, is_empty}
-use Rattle.conda_words.specs.Reading.{Fault, command_read}
+use Rattle.conda_words.specs.Reading.{Fault, command_read, nested_fault}
 use Rattle.conda_words.specs.Values.{number_in}
 use Rattle.conda_words.specs.declared.command.Line.{Line}
 use Rattle.conda_words.specs.declared.error.Why.{Why}
@@ -81,4 +81,4 @@ no_lines = record { lines = []; known = []; nested = None }
 -- round a different earlier one.
 unfoldable pub script_read : List ℕ → Read (List Line) Fault
 script_read text =
-    with_lines 1 no_lines (lines_of text) >>= (λ s. unless (option_map (λ n. (n, whys.Nested)) s.nested) s.lines)
+    with_lines 1 no_lines (lines_of text) >>= (λ s. unless (nested_fault s.nested) s.lines)
