@@ -1,14 +1,12 @@
 -- The words that are read are those of the grammar.
-use Rattle.std.proofs.Common.{◌≡◌, ℕ, ◌+◌, Bool, true, false, List, [], ◌∷◌, ◌++◌, refl, sym, ap, ◌∙◌, subst}
-use Rattle.std.specs.Prelude.{Option, None, Some, if◌then◌else◌, not, ◌&&◌, ◌||◌, ◌==◌, codes, find, is_some, unwrap_or}
-use Rattle.std.specs.List.{list_all, list_any}
+use Rattle.std.proofs.Common.{◌≡◌, ℕ, ◌+◌, Bool, true, false, List, [], ◌∷◌, ◌++◌, refl, sym, ap, ◌∙◌}
+use Rattle.std.specs.Prelude.{None, Some, if◌then◌else◌, not, ◌==◌, codes}
 use Rattle.std.specs.Str.{bytes_eq}
-use Rattle.std.proofs.lemmas.Slice.Eq.{bytes_eq-Decides}
 use Rattle.conda_base.specs.Signs.{dash, equals}
 use Rattle.conda_base.specs.Texts.{begins_with, cut_first}
-use Rattle.conda_words.specs.Cut.{dashed_item, ends_options, is_plain, item, items, long_option, own_item, takes_next, valued_item}
+use Rattle.conda_words.specs.Cut.{dashed_item, ends_options, is_plain, item, items, long_option, takes_next}
 use Rattle.conda_words.specs.Grammar.{Cuts, Spells, done, ends, flag, joined, plain_word, valued}
-use Rattle.conda_words.specs.Table.{Subcommand, has, has_value, is_kind, is_long, option_of, options, own_option, spelling, takes}
+use Rattle.conda_words.specs.Table.{Subcommand, has, has_value, is_long, option_of, options, own_option, spelling, takes}
 use Rattle.conda_words.specs.declared.cut.Item.{Item}
 use Rattle.conda_words.specs.declared.table.Kind.{Kind}
 use Rattle.conda_words.specs.declared.table.Kind.TheVariants as kinds

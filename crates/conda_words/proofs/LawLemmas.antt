@@ -1,20 +1,19 @@
 -- What is read from words, by the grammar and by the first fault.
-use Rattle.std.proofs.Common.{◌≡◌, ℕ, ◌+◌, ◌⊎◌, inl, inr, Bool, true, false, List, [], ◌∷◌, ◌++◌, length, ◌<◌, refl, sym, ap, ◌∙◌, subst, arith}
-use Rattle.std.specs.Prelude.{Option, None, Some, Ok, Err, if◌then◌else◌, not, ◌&&◌, ◌||◌, ◌==◌, nat_lt, option_map}
+use Rattle.std.proofs.Common.{◌≡◌, ℕ, ◌+◌, ◌⊎◌, inl, inr, Bool, true, false, List, [], ◌∷◌, ◌++◌, length, ◌<◌, refl, sym, ap, ◌∙◌, arith}
+use Rattle.std.specs.Prelude.{Option, None, Some, Ok, Err, not, ◌&&◌, ◌||◌, ◌==◌}
 use Rattle.std.proofs.lemmas.Bool.Decides.{nat_tests}
 use Rattle.conda_base.specs.Reads.{Read, ◌>>=◌, unless}
 use Rattle.conda_base.specs.Signs.{equals}
 use Rattle.conda_base.specs.Texts.{cut_first}
-use Rattle.conda_words.specs.Cut.{count, items}
-use Rattle.conda_words.specs.Grammar.{HasFault, HasItemFault, HasRowFault, IsFirstBad, Means, begin}
+use Rattle.conda_words.specs.Cut.{items}
+use Rattle.conda_words.specs.Grammar.{HasFault, HasItemFault, HasRowFault, Means, begin}
 use Rattle.conda_words.specs.Reading.{Fault, command_read, finished, lacks, lacks_prefix, lacks_value, missing, named_read, nested_fault, settled, with_items, words_read}
-use Rattle.conda_words.specs.Table.{Subcommand, has_one_prefix, least, subcommand_of}
+use Rattle.conda_words.specs.Table.{Subcommand, has_one_prefix, subcommand_of}
 use Rattle.conda_words.specs.declared.command.Command.{Command}
 use Rattle.conda_words.specs.declared.cut.Item.{Item}
 use Rattle.conda_words.specs.declared.error.Why.{Why}
 use Rattle.conda_words.specs.declared.error.Why.TheVariants as whys
 use Rattle.conda_words.specs.declared.reading.Reading.{Reading}
-use Rattle.conda_words.specs.declared.table.Kind.TheVariants as kinds
 use Rattle.conda_words.proofs.CutLemmas.{items_cuts}
 use Rattle.conda_words.proofs.GrammarLemmas.{cuts_items}
 use Rattle.conda_words.proofs.ReadingLemmas.{SecondErr, bad_items, bind_err, bind_ok, items_bad, or_false, right_whole, unless_err, unless_ok}

@@ -1,10 +1,10 @@
 -- The first bad line of a script.
-use Rattle.std.proofs.Common.{◌≡◌, ℕ, ◌+◌, ◌⊎◌, inl, inr, Bool, true, false, List, [], ◌∷◌, ◌++◌, length, refl, sym, ap, ◌∙◌, subst, arith}
+use Rattle.std.proofs.Common.{◌≡◌, ℕ, ◌+◌, ◌⊎◌, inl, inr, Bool, true, false, List, [], ◌∷◌, ◌++◌, length, refl, sym, ap, ◌∙◌, arith}
 use Rattle.std.specs.Prelude.{Option, None, Some, Ok, Err, if◌then◌else◌, nat_lt, position}
 use Rattle.conda_base.specs.Reads.{Read, ◌>>=◌, unless}
 use Rattle.conda_base.specs.Signs.{space}
 use Rattle.conda_base.specs.Texts.{is_empty}
-use Rattle.conda_words.specs.Grammar.{IsBadLine, IsFirstBadLine, IsNestedLine}
+use Rattle.conda_words.specs.Grammar.{IsFirstBadLine}
 use Rattle.conda_words.specs.Reading.{Fault, command_read, nested_fault}
 use Rattle.conda_words.specs.Scripts.{is_passed, judged, lines_of, no_lines, parted, script_read, with_fields, with_line, with_lines, with_reading, with_session}
 use Rattle.conda_words.specs.Values.{number_in}

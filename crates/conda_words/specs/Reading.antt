@@ -1,12 +1,12 @@
 -- What words mean, and the first fault of those that mean nothing. This project's own.
-use Rattle.std.specs.Prelude.{ℕ, ◌+◌, ◌==◌, Bool, true, false, ◌&&◌, ◌||◌, not, nat_lt, if◌then◌else◌, List, [], ◌∷◌, ◌++◌, length, codes, Option, None, Some, is_none, is_some, option_map, unwrap_or, Ok, Err}
+use Rattle.std.specs.Prelude.{ℕ, ◌+◌, ◌==◌, Bool, true, false, ◌&&◌, ◌||◌, not, nat_lt, if◌then◌else◌, List, [], ◌∷◌, ◌++◌, length, codes, Option, None, Some, is_none, is_some, unwrap_or, Ok, Err}
 use Rattle.std.specs.List.{list_any}
 use Rattle.std.specs.Option.{option_or}
 use Rattle.std.specs.Str.{bytes_eq}
 use Rattle.conda_base.specs.Reads.{Read, ◌>>=◌, unless}
 use Rattle.conda_path.specs.Paths.{is_inside, prefix_fault}
 use Rattle.conda_words.specs.Cut.{count, given, items}
-use Rattle.conda_words.specs.Table.{Subcommand, has_one_prefix, is_kind, least, most, repeats, subcommand_of}
+use Rattle.conda_words.specs.Table.{Subcommand, has_one_prefix, least, repeats, subcommand_of}
 use Rattle.conda_words.specs.Values.{is_channel, is_virtual, number_in, virtual_of}
 use Rattle.conda_words.specs.declared.command.Command.{Command}
 use Rattle.conda_words.specs.declared.command.Verb.{Verb}

@@ -1,5 +1,5 @@
 -- The lines of a script: what they mean, and the first fault of those that mean nothing. This project's own.
-use Rattle.std.specs.Prelude.{ℕ, ◌+◌, Bool, true, ◌==◌, nat_lt, if◌then◌else◌, List, [], ◌∷◌, ◌++◌, Option, None, Some, option_map, position, Ok, Err}
+use Rattle.std.specs.Prelude.{ℕ, ◌+◌, Bool, true, ◌==◌, nat_lt, if◌then◌else◌, List, [], ◌∷◌, ◌++◌, Option, None, Some, position, Ok, Err}
 use Rattle.std.specs.List.{slice_split}
 use Rattle.conda_base.specs.Reads.{Read, ◌>>=◌, unless}
 use Rattle.conda_base.specs.Signs.{hash, newline, space}
@@ -7,7 +7,6 @@ use Rattle.conda_base.specs.Texts.{is_byte, is_empty}
 use Rattle.conda_words.specs.Reading.{Fault, command_read, nested_fault}
 use Rattle.conda_words.specs.Values.{number_in}
 use Rattle.conda_words.specs.declared.command.Line.{Line}
-use Rattle.conda_words.specs.declared.error.Why.{Why}
 use Rattle.conda_words.specs.declared.error.Why.TheVariants as whys
 use Rattle.conda_words.specs.declared.reading.Reading.{Reading}
 use Rattle.conda_words.specs.declared.script.Script.{Script}
