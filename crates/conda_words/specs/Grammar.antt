@@ -28,11 +28,21 @@ pub record Spells (sub : Subcommand) (word : List ℕ) (kind : Kind) : Type 0 wh
 -- behind `=`.
 pub data Cuts (sub : Subcommand) : Bool → ℕ → List (List ℕ) → List Item → Type 0 where
   done : (plain : Bool) (at : ℕ) → Cuts sub plain at [] []
-  ends : (at : ℕ) (word : List ℕ) (words : List (List ℕ)) (is : List Item) → word ≡ codes "--" → Cuts sub true (at + 1) words is → Cuts sub false at (word ∷ words) is
-  plain_word : (plain : Bool) (at : ℕ) (word : List ℕ) (words : List (List ℕ)) (is : List Item) → is_plain plain word ≡ true → Cuts sub plain (at + 1) words is → Cuts sub plain at (word ∷ words) (item kinds.Word at at (Some word) ∷ is)
-  flag : (at : ℕ) (word : List ℕ) (kind : Kind) (words : List (List ℕ)) (is : List Item) → Spells sub word kind → has_value kind ≡ false → Cuts sub false (at + 1) words is → Cuts sub false at (word ∷ words) (item kind at at (Some []) ∷ is)
-  valued : (at : ℕ) (word : List ℕ) (kind : Kind) (value : List ℕ) (words : List (List ℕ)) (is : List Item) → Spells sub word kind → has_value kind ≡ true → Cuts sub false (at + 2) words is → Cuts sub false at (word ∷ value ∷ words) (item kind at (at + 1) (Some value) ∷ is)
-  joined : (at : ℕ) (name : List ℕ) (kind : Kind) (value : List ℕ) (words : List (List ℕ)) (is : List Item) → Spells sub name kind → is_long kind ≡ true → Cuts sub false (at + 1) words is → Cuts sub false at ((name ++ equals ∷ value) ∷ words) (item kind at at (Some value) ∷ is)
+  ends : (at : ℕ) (word : List ℕ) (words : List (List ℕ)) (is : List Item) →
+      word ≡ codes "--" → Cuts sub true (at + 1) words is →
+      Cuts sub false at (word ∷ words) is
+  plain_word : (plain : Bool) (at : ℕ) (word : List ℕ) (words : List (List ℕ)) (is : List Item) →
+      is_plain plain word ≡ true → Cuts sub plain (at + 1) words is →
+      Cuts sub plain at (word ∷ words) (item kinds.Word at at (Some word) ∷ is)
+  flag : (at : ℕ) (word : List ℕ) (kind : Kind) (words : List (List ℕ)) (is : List Item) →
+      Spells sub word kind → has_value kind ≡ false → Cuts sub false (at + 1) words is →
+      Cuts sub false at (word ∷ words) (item kind at at (Some []) ∷ is)
+  valued : (at : ℕ) (word : List ℕ) (kind : Kind) (value : List ℕ) (words : List (List ℕ)) (is : List Item) →
+      Spells sub word kind → has_value kind ≡ true → Cuts sub false (at + 2) words is →
+      Cuts sub false at (word ∷ value ∷ words) (item kind at (at + 1) (Some value) ∷ is)
+  joined : (at : ℕ) (name : List ℕ) (kind : Kind) (value : List ℕ) (words : List (List ℕ)) (is : List Item) →
+      Spells sub name kind → is_long kind ≡ true → Cuts sub false (at + 1) words is →
+      Cuts sub false at ((name ++ equals ∷ value) ∷ words) (item kind at at (Some value) ∷ is)
 
 -- ---- the meaning
 

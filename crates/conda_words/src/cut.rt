@@ -58,7 +58,8 @@ fn word_item(alloc: Global, kind: Kind, at: usize, value: &str) -> Result<Item, 
 
 /// A word that begins with `-`, by itself: a flag, or `--OPTION=VALUE`, cut at the first `=`.
 fn dashed_item(alloc: Global, row: Row, at: usize, word: &str) -> Result<Item, AllocError>
-    ensures { IfOk result (λ made. made ≡ cuts.dashed_item (seen row) at word.now (texts.cut_first 61 word.now)) }
+    ensures { IfOk result (λ made.
+        made ≡ cuts.dashed_item (seen row) at word.now (texts.cut_first 61 word.now)) }
 {
     let Some((name, value)) = cut_first(word, b'=') else {
         return word_item(alloc, own_option(row, word), at, "");
@@ -111,7 +112,8 @@ fn valued_item(
     next: Option<&str>,
 ) -> Result<Item, AllocError>
     requires { at + 1 < 2 ^ 64 }
-    ensures { IfOk result (λ made. made ≡ cuts.valued_item (seen row) at word.now (option_map (λ v. v.now) next.entry)) }
+    ensures { IfOk result (λ made.
+        made ≡ cuts.valued_item (seen row) at word.now (option_map (λ v. v.now) next.entry)) }
 {
     let value = match next {
         Some(value) => Some(Text::from_str(alloc, value)?),

@@ -206,7 +206,8 @@ fn with_value(
     at: usize,
     value: &str,
 ) -> Result<Reading, WordsErr>
-    ensures { Gives words_fault_of result (reads.with_value (seen row) before.now reading kind at value.now) }
+    ensures { Gives words_fault_of result
+        (reads.with_value (seen row) before.now reading kind at value.now) }
 {
     let mut reading = reading;
     match kind {

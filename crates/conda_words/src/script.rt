@@ -88,7 +88,8 @@ fn judged(
     blank: Option<usize>,
     read: Result<Reading, WordsErr>,
 ) -> Result<Reading, WordsErr>
-    ensures { (reading : _) → Gives words_fault_of read reading → Gives words_fault_of result (scripts.judged n blank reading) }
+    ensures { (reading : _) → Gives words_fault_of read reading →
+        Gives words_fault_of result (scripts.judged n blank reading) }
 {
     match (read, blank) {
         (Err(WordsErr::Memory), _) => Err(WordsErr::Memory),
@@ -194,7 +195,8 @@ fn read_lines(alloc: Global, text: &str) -> Result<Rows<Line>, WordsErr>
 /// a prefix lies inside or round one of an earlier word. Fails where memory runs out, too.
 pub fn read_script(alloc: Global, text: &str) -> Result<Vec<Line>, WordsErr>
     ensures value { IfOk result (λ lines. script_read text.now ≡ Ok lines.items) }
-    ensures refusal { IfErr result (λ e. IfSome (words_fault_of e) (λ fault. script_read text.now ≡ Err fault)) }
+    ensures refusal { IfErr result (λ e. IfSome (words_fault_of e) (λ fault.
+        script_read text.now ≡ Err fault)) }
 {
     match read_lines(alloc, text) {
         Ok(lines) => Ok(lines.into_vec()),
