@@ -1,5 +1,7 @@
-pub mod ValueLemmas
-pub mod PieceLemmas
-pub mod NestedLemmas
+pub mod ItemLemmas
+pub mod TextLemmas
+pub mod GrammarLemmas
+pub mod CutLemmas
+pub mod ReadingLemmas
+pub mod LawLemmas
 pub mod ScriptLemmas
-pub mod FaultLemmas

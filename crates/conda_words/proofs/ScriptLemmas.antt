@@ -1,151 +1,138 @@
--- A script cut into lines and words, and what one more line makes of the answers.
-use Rattle.std.proofs.Common.{◌≡◌, ◌≢◌, ◌==◌, ℕ, ◌+◌, ◌<◌, ◌≤◌, true, false, Bor, List, [], ◌∷◌, ◌++◌, length, drop, get_or, refl, sym, ap, ◌∙◌, subst, arith, append_assoc}
-use Rattle.std.specs.Prelude.{Option, None, Some, MatchOption, if◌then◌else◌, nat_lt}
-use Rattle.std.specs.List.{after_first, before_first, position_or_len}
-use Rattle.std.specs.Option.{option_or}
-use Rattle.std.proofs.lemmas.Bool.Decides.{nat_tests}
-use Rattle.std.proofs.lemmas.List.{append-nil}
-use Rattle.std.proofs.lemmas.List.Elements.{All-from_get_or}
-use Rattle.std.proofs.lemmas.List.Sums.{fails_before_first}
-use Rattle.std.proofs.lemmas.List.Splits.{slice_split_first, slice_split_none}
-use Rattle.conda_words.specs.Faults.{IsCause}
-use Rattle.conda_words.specs.Pieces.{pieces}
-use Rattle.conda_words.specs.Rows.{kind_of}
-use Rattle.conda_words.specs.Scripts.{at_line, cut_fault, fields_fault, fields_of, is_passed, line_of, lines_from, parted, rows_fault, with_fields, without_newline, words_in_fault}
+-- The first bad line of a script.
+use Rattle.std.proofs.Common.{◌≡◌, ℕ, ◌+◌, ◌⊎◌, inl, inr, Bool, true, false, List, [], ◌∷◌, ◌++◌, length, refl, sym, ap, ◌∙◌, arith}
+use Rattle.std.specs.Prelude.{Option, None, Some, Ok, Err, if◌then◌else◌, nat_lt, position}
+use Rattle.conda_base.specs.Reads.{Read, ◌>>=◌, unless}
+use Rattle.conda_base.specs.Signs.{space}
+use Rattle.conda_base.specs.Texts.{is_empty}
+use Rattle.conda_words.specs.Grammar.{IsFirstBadLine}
+use Rattle.conda_words.specs.Reading.{Fault, command_read, nested_fault}
+use Rattle.conda_words.specs.Scripts.{is_passed, judged, lines_of, no_lines, parted, script_read, with_fields, with_line, with_lines, with_reading, with_session}
+use Rattle.conda_words.specs.Values.{number_in}
 use Rattle.conda_words.specs.declared.command.Line.{Line}
 use Rattle.conda_words.specs.declared.error.Why.{Why}
-use Rattle.conda_words.specs.declared.error.Why.TheVariants.{Limit, Missing}
-use Rattle.conda_words.specs.declared.error.WordsErr.{WordsErr}
-use Rattle.conda_words.specs.declared.error.WordsErr.TheVariants.{Usage, Memory}
-use Rattle.conda_words.proofs.NestedLemmas.{drop_item}
+use Rattle.conda_words.specs.declared.error.Why.TheVariants as whys
+use Rattle.conda_words.specs.declared.reading.Reading.{Reading}
+use Rattle.conda_words.specs.declared.script.Script.{Script}
+use Rattle.conda_words.proofs.LawLemmas.{nested_some}
+use Rattle.conda_words.proofs.ReadingLemmas.{SecondErr, bind_err, bind_ok, unless_err}
 
--- ---- the parts of a text
+-- ---- a fault of a line stands at its number
 
-parted_none : (mark : ℕ) (text : List ℕ) → position_or_len (λ b. b == mark) text ≡ length text → parted mark text ≡ text ∷ []
-parted_none mark text e =
-    slice_split_none (λ b. b == mark) text
-    (All-from_get_or (λ b. (b == mark) ≡ false) text 0 (λ i h. fails_before_first (λ b. b == mark) text i 0 (omega (arith, h, e))))
+err_place : {A : Type 0} (n m : ℕ) (w why : Why) → (let r : Read A Fault = Err (n, w) in r) ≡ Err (m, why) → m ≡ n
+err_place {A} n m w why e =
+    let first : Fault → ℕ = λ f. f.0 in
+    ap first (err_fault (n, w) (m, why) e)
+  where
+    err_fault : (f g : Fault) → (let r : Read A Fault = Err f in r) ≡ Err g → g ≡ f
+    err_fault f g e = cc
 
-pub parted_first : (mark : ℕ) (text : List ℕ) (r : Option (Bor (List ℕ) × Bor (List ℕ))) → MatchOption r (position_or_len (λ b. b == mark) text ≡ length text) (λ x. (position_or_len (λ b. b == mark) text < length text) × (x.0.now ≡ before_first (λ b. b == mark) text) × (x.1.now ≡ after_first (λ b. b == mark) text)) → MatchOption r (parted mark text ≡ text ∷ []) (λ cut. parted mark text ≡ cut.0.now ∷ parted mark cut.1.now)
-parted_first mark text None h = parted_none mark text h
-parted_first mark text (Some x) h = rw (h.1, h.2) (slice_split_first (λ b. b == mark) text 0 h.0)
+judged_place : (n : ℕ) (blank : Option ℕ) (r : Read Reading Fault) (m : ℕ) (why : Why) → judged n blank r ≡ Err (m, why) → m ≡ n
+judged_place n None (Ok reading) m why e = cc
+judged_place n (Some blank) (Ok reading) m why e = err_place n m whys.Unknown why e
+judged_place n None (Err fault) m why e = err_place n m fault.1 why e
+judged_place n (Some blank) (Err fault) m why e = err_place n m (if nat_lt fault.0 blank then fault.1 else whys.Unknown) why e
 
--- ---- the newline at the end
+placed : (n session : ℕ) (script : Script) (line : Read Reading Fault) (m : ℕ) (why : Why) → (line ≡ Err (m, why) → m ≡ n) → (line >>= (λ r. Ok (with_reading n session script r))) ≡ Err (m, why) → m ≡ n
+placed n session script (Ok reading) m why same e = cc
+placed n session script (Err fault) m why same e = same (err_err fault (m, why) e)
+  where
+    err_err : (f g : Fault) → (let r : Read Script Fault = Err f in r) ≡ Err g → (let r : Read Reading Fault = Err f in r) ≡ Err g
+    err_err f g e = cc
 
-pub newline_cut : (front : List ℕ) → without_newline (front ++ 10 ∷ []) ≡ front
-newline_cut [] = refl
-newline_cut (b ∷ []) = refl
-newline_cut (b ∷ c ∷ more) = ap (λ t. b ∷ t) (newline_cut (c ∷ more))
+session_place : (n : ℕ) (script : Script) (words : List (List ℕ)) (session : Option ℕ) (m : ℕ) (why : Why) → with_session n script words session ≡ Err (m, why) → m ≡ n
+session_place n script words None m why e = err_place n m whys.Number why e
+session_place n script words (Some session) m why e = placed n session script (judged n (position is_empty words) (command_read (Some n) script.known script.nested words)) m why (judged_place n (position is_empty words) (command_read (Some n) script.known script.nested words) m why) e
 
-one_byte : (b : ℕ) → b ≢ 10 → without_newline (b ∷ []) ≡ b ∷ []
-one_byte b h = grind (arith, nat_tests)
+fields_place : (n : ℕ) (script : Script) (fields : List (List ℕ)) (m : ℕ) (why : Why) → with_fields n script fields ≡ Err (m, why) → m ≡ n
+unfolding with_fields
+fields_place n script [] m why e = err_place n m whys.Missing why e
+fields_place n script (session ∷ words) m why e = session_place n script words (number_in 0 15 session) m why e
 
-pub newline_none : (text : List ℕ) → ((front : List ℕ) → text ≢ front ++ (10 ∷ [])) → without_newline text ≡ text
-newline_none [] h = refl
-newline_none (b ∷ []) h = one_byte b (λ e. h [] (ap (λ c. c ∷ []) e))
-newline_none (b ∷ c ∷ rest) h = ap (λ t. b ∷ t) (newline_none (c ∷ rest) (λ front e. h (b ∷ front) (ap (λ t. b ∷ t) e)))
+either_place : (late passed : Bool) (n : ℕ) (script : Script) (fields : List (List ℕ)) (m : ℕ) (why : Why) → (if late then Err (n, whys.Limit) else if passed then Ok script else with_fields n script fields) ≡ Err (m, why) → m ≡ n
+either_place true passed n script fields m why e = err_place n m whys.Limit why e
+either_place false true n script fields m why e = cc
+either_place false false n script fields m why e = fields_place n script fields m why e
 
--- ---- the words of a line
+line_place : (n : ℕ) (script : Script) (line : List ℕ) (m : ℕ) (why : Why) → with_line n script line ≡ Err (m, why) → m ≡ n
+line_place n script line m why e = either_place (nat_lt 10000 n) (is_passed line) n script (parted space line) m why e
 
-pub in_none : (known words : List (List ℕ)) → words ≡ [] → words_in_fault known words ≡ Some (0, Missing)
-unfolding words_in_fault
-in_none known words none = ap (words_in_fault known) none
+-- ---- lines
 
-pub in_parts : (known words : List (List ℕ)) (command : List ℕ) (rest : List (List ℕ)) → words ≡ command ∷ rest → words_in_fault known words ≡ cut_fault known words (kind_of command) (pieces false 1 rest)
-unfolding words_in_fault
-in_parts known words command rest split =
-    ap (words_in_fault known) split ∙ ap (λ w. cut_fault known w (kind_of command) (pieces false 1 rest)) (sym split)
+record BadFrom (k : ℕ) (script : Script) (lines : List (List ℕ)) (n : ℕ) (why : Why) : Type 0 where
+  front : List (List ℕ)
+  line : List ℕ
+  behind : List (List ℕ)
+  before : Script
+  split : lines ≡ front ++ line ∷ behind
+  right : with_lines k script front ≡ Ok before
+  place : n ≡ k + length front
+  wrong : with_line n before line ≡ Err (n, why)
 
--- a fault names its cause
-pub cause_is : (e : WordsErr) (n : ℕ) (why : Why) (f : Option (ℕ × Why)) → e ≡ Usage n why → f ≡ Some (n, why) → IsCause e f
-cause_is e n why f same found = subst (λ x. IsCause x f) (sym same) found
+lines_bad : (k : ℕ) (script : Script) (lines : List (List ℕ)) (n : ℕ) (why : Why) → with_lines k script lines ≡ Err (n, why) → BadFrom k script lines n why
+lines_bad k script [] n why h = cc
+lines_bad k script (line ∷ lines) n why h = by (bind_err (with_line k script line) (λ next. with_lines (k + 1) next lines) (n, why) h) (λ next. lines_bad (k + 1) next lines n why)
+  where
+    by : (with_line k script line ≡ Err (n, why)) ⊎ SecondErr (with_line k script line) (λ next. with_lines (k + 1) next lines) (n, why) → ((next : Script) → with_lines (k + 1) next lines ≡ Err (n, why) → BadFrom (k + 1) next lines n why) → BadFrom k script (line ∷ lines) n why
+    by (inl e) rest =
+        let same = line_place k script line n why e in record {
+          front = [];
+          line = line;
+          behind = lines;
+          before = script;
+          split = refl;
+          right = refl;
+          place = grind (arith, same);
+          wrong = ap (λ m. with_line m script line) same ∙ e;
+        }
+    by (inr s) rest =
+        let more = rest s.value s.second in record {
+          front = line ∷ more.front;
+          line = more.line;
+          behind = more.behind;
+          before = more.before;
+          split = ap (λ l. line ∷ l) more.split;
+          right = ap (λ m. m >>= (λ next. with_lines (k + 1) next more.front)) s.first ∙ more.right;
+          place = grind (arith, more.place);
+          wrong = more.wrong;
+        }
 
-pub cause_at_line : (e : WordsErr) (n at : ℕ) (why : Why) (f : Option (ℕ × Why)) → e ≡ Usage n why → f ≡ Some (at, why) → IsCause e (at_line n f)
-cause_at_line e n at why f same found = cause_is e n why (at_line n f) same (ap (at_line n) found)
+ok_same : (x y : Script) → (let m : Read Script Fault = Ok x in m) ≡ Ok y → x ≡ y
+ok_same x y e = cc
 
-pub cause_same : (e : WordsErr) (f g : Option (ℕ × Why)) → f ≡ g → IsCause e f → IsCause e g
-cause_same e f g same cause = subst (IsCause e) same cause
+bad_lines : (k : ℕ) (script : Script) (front : List (List ℕ)) (line : List ℕ) (behind : List (List ℕ)) (before : Script) (n : ℕ) (f : Fault) → with_lines k script front ≡ Ok before → n ≡ k + length front → with_line n before line ≡ Err f → with_lines k script (front ++ line ∷ behind) ≡ Err f
+bad_lines k script [] line behind before n f right place wrong =
+    let here : n ≡ k = grind (arith, place) in
+    ap (λ m. m >>= (λ next. with_lines (k + 1) next behind))
+    (ap (λ x. with_line k x line) (ok_same script before right) ∙ ap (λ m. with_line m before line) (sym here) ∙ wrong)
+bad_lines k script (l ∷ front) line behind before n f right place wrong =
+    let parts = bind_ok (with_line k script l) (λ next. with_lines (k + 1) next front) before right in
+    let there : n ≡ k + 1 + length front = grind (arith, place) in
+    ap (λ m. m >>= (λ next. with_lines (k + 1) next (front ++ line ∷ behind))) parts.first
+    ∙ bad_lines (k + 1) parts.value front line behind before n f parts.second there wrong
 
-pub cause_or : (e : WordsErr) (f g : Option (ℕ × Why)) → IsCause e f → IsCause e (option_or f g)
-cause_or (Usage at why) f g cause = ap (λ o. option_or o g) cause
-cause_or Memory f g cause = tt
+-- ---- a script
 
--- ---- one more line
+pub bad_script : (text : List ℕ) (n : ℕ) (why : Why) → script_read text ≡ Err (n, why) → IsFirstBadLine text n why
+unfolding script_read
+bad_script text n why h = by (bind_err (with_lines 1 no_lines (lines_of text)) (λ s. unless (nested_fault s.nested) s.lines) (n, why) h)
+  where
+    by : (with_lines 1 no_lines (lines_of text) ≡ Err (n, why)) ⊎ SecondErr (with_lines 1 no_lines (lines_of text)) (λ s. unless (nested_fault s.nested) s.lines) (n, why) → IsFirstBadLine text n why
+    by (inl e) =
+        let bad = lines_bad 1 no_lines (lines_of text) n why e in
+        inl (record { front = bad.front; line = bad.line; behind = bad.behind; before = bad.before; split = bad.split; right = bad.right; place = bad.place; wrong = bad.wrong })
+    by (inr s) =
+        let found = nested_some s.value.nested n why (unless_err (nested_fault s.value.nested) s.value.lines (n, why) s.second) in
+        inr (record { all = s.value; right = s.first; place = found.0; cause = found.1 })
 
-pub over_limit : (n : ℕ) → 10000 < n → nat_lt 10000 n ≡ true
-over_limit n h = grind (arith, nat_tests)
-
-pub under_limit : (n : ℕ) → n ≤ 10000 → nat_lt 10000 n ≡ false
-under_limit n h = grind (arith, nat_tests)
-
-pub fault_limit : (n : ℕ) (known : List (List ℕ)) (row : List ℕ) (rest : List (List ℕ)) → 10000 < n → rows_fault n known (row ∷ rest) ≡ Some (n, Limit)
-unfolding rows_fault
-fault_limit n known row rest h =
-    ap (λ b. if b then Some (n, Limit) else if is_passed row then rows_fault (n + 1) known rest else option_or (fields_fault n known (fields_of row)) (rows_fault (n + 1) (with_fields known (fields_of row)) rest)) (over_limit n h)
-
-pub fault_passed : (n : ℕ) (known : List (List ℕ)) (row : List ℕ) (rest : List (List ℕ)) → n ≤ 10000 → is_passed row ≡ true → rows_fault n known (row ∷ rest) ≡ rows_fault (n + 1) known rest
-unfolding rows_fault
-fault_passed n known row rest h passed =
-    ap (λ b. if b then Some (n, Limit) else if is_passed row then rows_fault (n + 1) known rest else option_or (fields_fault n known (fields_of row)) (rows_fault (n + 1) (with_fields known (fields_of row)) rest)) (under_limit n h)
-    ∙ ap (λ b. if b then rows_fault (n + 1) known rest else option_or (fields_fault n known (fields_of row)) (rows_fault (n + 1) (with_fields known (fields_of row)) rest)) passed
-
-pub fault_line : (n : ℕ) (known : List (List ℕ)) (row : List ℕ) (rest : List (List ℕ)) → n ≤ 10000 → is_passed row ≡ false → rows_fault n known (row ∷ rest) ≡ option_or (fields_fault n known (fields_of row)) (rows_fault (n + 1) (with_fields known (fields_of row)) rest)
-unfolding rows_fault
-fault_line n known row rest h passed =
-    ap (λ b. if b then Some (n, Limit) else if is_passed row then rows_fault (n + 1) known rest else option_or (fields_fault n known (fields_of row)) (rows_fault (n + 1) (with_fields known (fields_of row)) rest)) (under_limit n h)
-    ∙ ap (λ b. if b then rows_fault (n + 1) known rest else option_or (fields_fault n known (fields_of row)) (rows_fault (n + 1) (with_fields known (fields_of row)) rest)) passed
-
-pub lines_passed : (n : ℕ) (row : List ℕ) (rest : List (List ℕ)) → is_passed row ≡ true → lines_from n (row ∷ rest) ≡ lines_from (n + 1) rest
-unfolding lines_from
-lines_passed n row rest passed = ap (λ b. if b then lines_from (n + 1) rest else line_of n (fields_of row) ∷ lines_from (n + 1) rest) passed
-
-pub lines_line : (n : ℕ) (row : List ℕ) (rest : List (List ℕ)) → is_passed row ≡ false → lines_from n (row ∷ rest) ≡ line_of n (fields_of row) ∷ lines_from (n + 1) rest
-unfolding lines_from
-lines_line n row rest passed = ap (λ b. if b then lines_from (n + 1) rest else line_of n (fields_of row) ∷ lines_from (n + 1) rest) passed
-
--- ---- the loop over lines
-
--- the line at a place of a script
-pub record IsRow (rows : List (List ℕ)) (i : ℕ) (row : List ℕ) : Type 0 where
-  pub inside : i < length rows
-  pub here : row ≡ get_or rows i row
-
-pub row_first : (rows : List (List ℕ)) (i : ℕ) (row : List ℕ) → IsRow rows i row → drop i rows ≡ row ∷ drop (i + 1) rows
-row_first rows i row is = drop_item rows i row is.inside is.here
-
-pub loop_limit : (n : ℕ) (known rows : List (List ℕ)) (i : ℕ) (row : List ℕ) (all : Option (ℕ × Why)) → IsRow rows i row → 10000 < n → rows_fault n known (drop i rows) ≡ all → all ≡ Some (n, Limit)
-loop_limit n known rows i row all is h inv =
-    sym inv ∙ ap (rows_fault n known) (row_first rows i row is) ∙ fault_limit n known row (drop (i + 1) rows) h
-
-pub loop_passed : (n : ℕ) (known rows : List (List ℕ)) (i : ℕ) (row : List ℕ) (all : Option (ℕ × Why)) → IsRow rows i row → n ≤ 10000 → is_passed row ≡ true → rows_fault n known (drop i rows) ≡ all → rows_fault (n + 1) known (drop (i + 1) rows) ≡ all
-loop_passed n known rows i row all is h passed inv =
-    sym (fault_passed n known row (drop (i + 1) rows) h passed) ∙ sym (ap (rows_fault n known) (row_first rows i row is)) ∙ inv
-
-pub loop_fault : (n : ℕ) (known rows : List (List ℕ)) (i : ℕ) (row : List ℕ) (all : Option (ℕ × Why)) (e : WordsErr) → IsRow rows i row → n ≤ 10000 → is_passed row ≡ false → rows_fault n known (drop i rows) ≡ all → IsCause e (fields_fault n known (fields_of row)) → IsCause e all
-loop_fault n known rows i row all e is h passed inv cause =
-    cause_same e _ _ (sym (fault_line n known row (drop (i + 1) rows) h passed) ∙ sym (ap (rows_fault n known) (row_first rows i row is)) ∙ inv)
-    (cause_or e (fields_fault n known (fields_of row)) (rows_fault (n + 1) (with_fields known (fields_of row)) (drop (i + 1) rows)) cause)
-
-pub loop_line : (n : ℕ) (known new rows : List (List ℕ)) (i : ℕ) (row : List ℕ) (all : Option (ℕ × Why)) → IsRow rows i row → n ≤ 10000 → is_passed row ≡ false → fields_fault n known (fields_of row) ≡ None → new ≡ with_fields known (fields_of row) → rows_fault n known (drop i rows) ≡ all → rows_fault (n + 1) new (drop (i + 1) rows) ≡ all
-loop_line n known new rows i row all is h passed good grown inv =
-    ap (λ k. rows_fault (n + 1) k (drop (i + 1) rows)) grown
-    ∙ sym (ap (λ o. option_or o (rows_fault (n + 1) (with_fields known (fields_of row)) (drop (i + 1) rows))) good)
-    ∙ sym (fault_line n known row (drop (i + 1) rows) h passed) ∙ sym (ap (rows_fault n known) (row_first rows i row is)) ∙ inv
-
-pub made_passed : (made all : List Line) (n : ℕ) (rows : List (List ℕ)) (i : ℕ) (row : List ℕ) → IsRow rows i row → is_passed row ≡ true → made ++ lines_from n (drop i rows) ≡ all → made ++ lines_from (n + 1) (drop (i + 1) rows) ≡ all
-made_passed made all n rows i row is passed inv =
-    ap (λ ls. made ++ ls) (sym (lines_passed n row (drop (i + 1) rows) passed)) ∙ sym (ap (λ rs. made ++ lines_from n rs) (row_first rows i row is)) ∙ inv
-
-pub made_line : (made after all : List Line) (line : Line) (n : ℕ) (rows : List (List ℕ)) (i : ℕ) (row : List ℕ) → IsRow rows i row → is_passed row ≡ false → after ≡ made ++ line ∷ [] → line ≡ line_of n (fields_of row) → made ++ lines_from n (drop i rows) ≡ all → after ++ lines_from (n + 1) (drop (i + 1) rows) ≡ all
-made_line made after all line n rows i row is passed pushed same inv =
-    ap (λ m. m ++ lines_from (n + 1) (drop (i + 1) rows)) pushed ∙ append_assoc made (line ∷ []) (lines_from (n + 1) (drop (i + 1) rows))
-    ∙ ap (λ l. made ++ l ∷ lines_from (n + 1) (drop (i + 1) rows)) same ∙ ap (λ ls. made ++ ls) (sym (lines_line n row (drop (i + 1) rows) passed))
-    ∙ sym (ap (λ rs. made ++ lines_from n rs) (row_first rows i row is)) ∙ inv
-
-pub made_all : (made all : List Line) (n : ℕ) (left : List (List ℕ)) → left ≡ [] → made ++ lines_from n left ≡ all → made ≡ all
-unfolding lines_from
-made_all made all n left none inv = sym (append-nil made) ∙ sym (ap (λ rs. made ++ lines_from n rs) none) ∙ inv
-
-pub fault_all : (n : ℕ) (known left : List (List ℕ)) (all : Option (ℕ × Why)) → left ≡ [] → rows_fault n known left ≡ all → all ≡ None
-unfolding rows_fault
-fault_all n known left all none inv = sym inv ∙ ap (rows_fault n known) none
+pub script_bad : (text : List ℕ) (n : ℕ) (why : Why) → IsFirstBadLine text n why → script_read text ≡ Err (n, why)
+unfolding script_read
+script_bad text n why (inl b) =
+    ap (λ m. m >>= (λ s. unless (nested_fault s.nested) s.lines))
+    (ap (with_lines 1 no_lines) b.split ∙ bad_lines 1 no_lines b.front b.line b.behind b.before n (n, why) b.right b.place b.wrong)
+script_bad text n why (inr b) =
+    ap (λ m. m >>= (λ s. unless (nested_fault s.nested) s.lines)) b.right
+    ∙ ap (λ o. unless (nested_fault o) b.all.lines) b.place
+    ∙ cause_pair (sym b.cause)
+  where
+    cause_pair : whys.Nested ≡ why → (let m : Read (List Line) Fault = Err (n, whys.Nested) in m) ≡ Err (n, why)
+    cause_pair q = cc

@@ -2,21 +2,18 @@
 //! nothing. This project's own rules.
 #![tactic(auto)]
 
-mod build;
-mod check;
 mod command;
+mod cut;
 mod error;
-mod nested;
-mod piece;
-mod row;
+mod laws;
+mod reading;
 mod script;
+mod table;
 mod value;
 mod words;
 
 pub use command::{Command, Line, Verb, Virtual};
 pub use error::{Why, WordsErr};
+pub use laws::{script_law, words_laws};
 pub use script::read_script;
 pub use words::read_words;
-
-#[cfg(test)]
-mod tests;

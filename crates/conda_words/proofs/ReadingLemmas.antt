@@ -1,0 +1,124 @@
+-- What a reading of items answers, by its items.
+use Rattle.std.proofs.Common.{◌≡◌, ℕ, ◌⊎◌, inl, inr, Bool, true, false, List, [], ◌∷◌, ◌++◌, refl, sym, ap, ◌∙◌, append_assoc}
+use Rattle.std.specs.Prelude.{Option, None, Some, Ok, Err, if◌then◌else◌, not, ◌&&◌, ◌||◌, is_none}
+use Rattle.std.proofs.lemmas.List.{append-nil}
+use Rattle.conda_base.specs.Reads.{Read, ◌>>=◌, unless}
+use Rattle.conda_words.specs.Cut.{given}
+use Rattle.conda_words.specs.Reading.{Fault, lacks_value, with_any_value, with_item, with_items}
+use Rattle.conda_words.specs.Table.{Subcommand, is_kind, repeats}
+use Rattle.conda_words.specs.declared.cut.Item.{Item}
+use Rattle.conda_words.specs.declared.error.Why.{Why}
+use Rattle.conda_words.specs.declared.reading.Reading.{Reading}
+use Rattle.conda_words.specs.declared.table.Kind.{Kind}
+use Rattle.conda_words.specs.declared.table.Kind.TheVariants as kinds
+use Rattle.conda_words.proofs.CutLemmas.{AreWhole, IsWhole}
+
+-- ---- one read after another
+
+pub record BothOk {A B F : Type 0} (m : Read A F) (next : A → Read B F) (y : B) : Type 0 where
+  pub value : A
+  pub first : m ≡ Ok value
+  pub second : next value ≡ Ok y
+
+pub bind_ok : {A B F : Type 0} (m : Read A F) (next : A → Read B F) (y : B) → (m >>= next) ≡ Ok y → BothOk m next y
+bind_ok (Ok x) next y h = record { value = x; first = refl; second = h }
+bind_ok (Err f) next y h = cc
+
+-- the second read answers a fault
+pub record SecondErr {A B F : Type 0} (m : Read A F) (next : A → Read B F) (f : F) : Type 0 where
+  pub value : A
+  pub first : m ≡ Ok value
+  pub second : next value ≡ Err f
+
+err_same : {A B F : Type 0} (g f : F) (m : Read B F) (n : Read A F) → m ≡ Err g → n ≡ Err g → m ≡ Err f → n ≡ Err f
+err_same g f m n e d h = cc
+
+pub bind_err : {A B F : Type 0} (m : Read A F) (next : A → Read B F) (f : F) → (m >>= next) ≡ Err f → (m ≡ Err f) ⊎ SecondErr m next f
+bind_err (Ok x) next f h = inr (record { value = x; first = refl; second = h })
+bind_err (Err g) next f h = inl (err_same g f (Err g) (Err g) refl refl h)
+
+pub unless_ok : {A F : Type 0} (o : Option F) (x y : A) → unless o x ≡ Ok y → (o ≡ None) × (x ≡ y)
+unless_ok None x y h = (refl, (cc))
+unless_ok (Some f) x y h = cc
+
+pub unless_err : {A F : Type 0} (o : Option F) (x : A) (f : F) → unless o x ≡ Err f → o ≡ Some f
+unless_err None x f h = cc
+unless_err (Some g) x f h = cc
+
+-- ---- items
+
+not_err : {A F : Type 0} (b : Bool) (f : F) (m : Read A F) (y : A) → (if b then Err f else m) ≡ Ok y → m ≡ Ok y
+not_err true f m y h = cc
+not_err false f m y h = h
+
+known_value : (sub : Subcommand) (before : List Item) (r next : Reading) (kind : Kind) (at : ℕ) (value : Option (List ℕ)) → with_any_value sub before r kind at value ≡ Ok next → is_none value ≡ false → is_kind kind kinds.Strange ≡ false
+known_value sub before r next kinds.Strange at None h there = cc
+known_value sub before r next kinds.Strange at (Some value) h there = cc
+known_value sub before r next kinds.Word at value h there = refl
+known_value sub before r next kinds.Prefix at value h there = refl
+known_value sub before r next kinds.Channel at value h there = refl
+known_value sub before r next kinds.ChannelDir at value h there = refl
+known_value sub before r next kinds.PkgsDir at value h there = refl
+known_value sub before r next kinds.Jobs at value h there = refl
+known_value sub before r next kinds.Virtual at value h there = refl
+known_value sub before r next kinds.Revision at value h there = refl
+known_value sub before r next kinds.Revisions at value h there = refl
+known_value sub before r next kinds.Copy at value h there = refl
+
+pub or_false : (a b : Bool) → (a || b) ≡ false → (a ≡ false) × (b ≡ false)
+or_false true b h = cc
+or_false false b h = (refl, h)
+
+whole_item : (sub : Subcommand) (before : List Item) (r next : Reading) (i : Item) → with_item sub before r i ≡ Ok next → is_none i.value ≡ false → IsWhole i
+unfolding with_item
+whole_item sub before r next i h there = record {
+  known = known_value sub before r next i.kind i.value_at i.value (not_err (not (repeats sub i.kind) && given i.kind before) _ _ next h) there;
+  there = there;
+}
+
+pub right_whole : (sub : Subcommand) (before : List Item) (r last : Reading) (is : List Item) → with_items sub before r is ≡ Ok last → lacks_value is ≡ false → AreWhole is
+right_whole sub before r last [] h there = tt
+right_whole sub before r last (i ∷ is) h there =
+    let parts = bind_ok (with_item sub before r i) (λ next. with_items sub (before ++ i ∷ []) next is) last h in
+    let all = or_false (is_none i.value) (lacks_value is) there in
+    (whole_item sub before r parts.value i parts.first all.0, right_whole sub (before ++ i ∷ []) parts.value last is parts.second all.1)
+
+-- the first bad item, behind others
+pub record BadBehind (sub : Subcommand) (before : List Item) (r : Reading) (is : List Item) (at : ℕ) (why : Why) : Type 0 where
+  pub front : List Item
+  pub bad : Item
+  pub behind : List Item
+  pub last : Reading
+  pub split : is ≡ front ++ bad ∷ behind
+  pub right : with_items sub before r front ≡ Ok last
+  pub wrong : with_item sub (before ++ front) last bad ≡ Err (at, why)
+
+pub items_bad : (sub : Subcommand) (before : List Item) (r : Reading) (is : List Item) (at : ℕ) (why : Why) → with_items sub before r is ≡ Err (at, why) → BadBehind sub before r is at why
+items_bad sub before r [] at why h = cc
+items_bad sub before r (i ∷ is) at why h = by (bind_err (with_item sub before r i) (λ next. with_items sub (before ++ i ∷ []) next is) (at, why) h) (λ next. items_bad sub (before ++ i ∷ []) next is at why)
+  where
+    by : (with_item sub before r i ≡ Err (at, why)) ⊎ SecondErr (with_item sub before r i) (λ next. with_items sub (before ++ i ∷ []) next is) (at, why) → ((next : Reading) → with_items sub (before ++ i ∷ []) next is ≡ Err (at, why) → BadBehind sub (before ++ i ∷ []) next is at why) → BadBehind sub before r (i ∷ is) at why
+    by (inl e) rest = record { front = []; bad = i; behind = is; last = r; split = refl; right = refl; wrong = ap (λ b. with_item sub b r i) (append-nil before) ∙ e }
+    by (inr s) rest =
+        let more = rest s.value s.second in record {
+          front = i ∷ more.front;
+          bad = more.bad;
+          behind = more.behind;
+          last = more.last;
+          split = ap (λ l. i ∷ l) more.split;
+          right = ap (λ m. m >>= (λ n. with_items sub (before ++ i ∷ []) n more.front)) s.first ∙ more.right;
+          wrong = ap (λ b. with_item sub b more.last more.bad) (sym (append_assoc before (i ∷ []) more.front)) ∙ more.wrong;
+        }
+
+ok_same : (x y : Reading) → (let m : Read Reading Fault = Ok x in m) ≡ Ok y → x ≡ y
+ok_same x y e = cc
+
+pub bad_items : (sub : Subcommand) (before : List Item) (r : Reading) (front : List Item) (bad : Item) (behind : List Item) (last : Reading) (f : Fault) → with_items sub before r front ≡ Ok last → with_item sub (before ++ front) last bad ≡ Err f → with_items sub before r (front ++ bad ∷ behind) ≡ Err f
+bad_items sub before r [] bad behind last f right wrong =
+    ap (λ m. m >>= (λ next. with_items sub (before ++ bad ∷ []) next behind))
+    (ap (λ x. with_item sub before x bad) (ok_same r last right) ∙ ap (λ b. with_item sub b last bad) (sym (append-nil before)) ∙ wrong)
+bad_items sub before r (i ∷ front) bad behind last f right wrong =
+    let parts = bind_ok (with_item sub before r i) (λ next. with_items sub (before ++ i ∷ []) next front) last right in
+    ap (λ m. m >>= (λ next. with_items sub (before ++ i ∷ []) next (front ++ bad ∷ behind))) parts.first
+    ∙ bad_items sub (before ++ i ∷ []) parts.value front bad behind last f parts.second
+    (ap (λ b. with_item sub b last bad) (append_assoc before (i ∷ []) front) ∙ wrong)
