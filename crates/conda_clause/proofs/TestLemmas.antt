@@ -9,6 +9,8 @@ use Rattle.std.specs.Char.{to_ascii_lowercase}
 use Rattle.std.specs.List.{list_all, position, prefix_len}
 use Rattle.std.specs.Option.{option_or}
 use Rattle.std.specs.Str.{IsUtf8}
+use Rattle.conda_base.specs.Signs.{dot}
+use Rattle.conda_base.specs.Texts.{ends_with}
 use Rattle.conda_version.specs.declared.error.VersionWhy.{VersionWhy}
 use Rattle.conda_version.specs.declared.error.VersionWhy.TheVariants.{Empty, Char, Epoch, Local, Component, Numeral}
 use Rattle.conda_version.specs.Grammar.{because, char_fault, component_fault, empty_fault, epoch_fault, is_plain, local_fault, marks_fault, numeral_from, offence}
@@ -16,7 +18,7 @@ use Rattle.conda_version.specs.Text.{holds, plain, trimmed, underscored, without
 use Rattle.conda_version.proofs.TextLemmas.{back_stops, front_stops}
 use Rattle.conda_clause.specs.declared.test.Sign.{Sign}
 use Rattle.conda_clause.specs.declared.test.Test.TheVariants.{Any}
-use Rattle.conda_clause.specs.Tests.{ends_with, is_any, is_version_char, sign_len, sign_of, signed, test_of, test_with, version_text, without_star}
+use Rattle.conda_clause.specs.Tests.{is_any, is_version_char, sign_len, sign_of, signed, test_of, test_with, version_text, without_star}
 
 or_none_left : {X : Type 0} (a b : Option X) → option_or a b ≡ None → a ≡ None
 or_none_left None b h = refl
@@ -143,3 +145,21 @@ test_found text sign len behind star v is_sign is_len is_behind other is_star fo
     ap (λ q. test_with q star v) is_sign ∙ ap (λ q. test_with (sign_of text) q v) starred
     ∙ sym (ap (λ k. if k then Some Any else option_and_then (test_with (sign_of text) (ends_with 42 (signed text))) (version_text (without_star (signed text)))) any
     ∙ ap (option_and_then (test_with (sign_of text) (ends_with 42 (signed text)))) version)
+
+pub and_both : (a b : Bool) → a ≡ true → b ≡ true → (a && b) ≡ true
+and_both a b h k = ap (λ q. q && b) h ∙ k
+
+pub test_equal : (m n : ℕ) → (m == n) ≡ true → m ≡ n
+test_equal m n h = grind (arith, nat_tests)
+
+-- a character that fails a test is another one
+pub unlike : (p : ℕ → Bool) (b k : ℕ) → p b ≡ true → p k ≡ false → (b == k) ≡ false
+unlike p b k h f = by_same (b == k) refl
+  where
+    by_same : (s : Bool) → (b == k) ≡ s → s ≡ false
+    by_same false e = refl
+    by_same true e = absurd (true≢false (sym h ∙ ap p (test_equal b k e) ∙ f))
+
+-- no version ends with a dot
+pub no_dot_end : (v : List ℕ) → offence v ≡ None → ends_with dot v ≡ false
+no_dot_end v h = ?

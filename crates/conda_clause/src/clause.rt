@@ -89,7 +89,7 @@ impl VersionClause {
     pub fn holds(&self, version: &Version) -> bool
         ensures { result ≡ clause_holds self.now version.now }
     {
-        tokens_true(self.tokens.len(), version, self.tokens.as_slice())
+        tokens_true(version, self.tokens.as_slice())
     }
 
     /// The clause as it is written where a build follows: the one test `=v`, `=v*` or `=v.*` as `v.*`, and `=*` as `*`.

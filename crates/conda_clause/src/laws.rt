@@ -1,10 +1,14 @@
-ghost use Rattle.std.specs.Prelude.{◌≡◌, ◌<◌, ◌≤◌, ◌==◌, ◌∷◌, List, None, false, length, not, true, ℕ};
+ghost use Rattle.std.specs.Prelude.{◌≡◌, ◌<◌, ◌≤◌, ◌==◌, ◌∷◌, List, None, Some, false, length, not, true, ℕ};
 ghost use Rattle.std.specs.List.{list_all};
 ghost use Rattle.conda_clause.specs.Clause.{clause_fault, is_clause_char};
 ghost use Rattle.conda_clause.specs.Faults.{place_of};
-ghost use Rattle.conda_clause.specs.Grammar.{IsClause};
+ghost use Rattle.conda_clause.specs.Tree.{IsClause, Tree, Writes, tree_holds};
+ghost use Rattle.conda_clause.specs.Tree.Rank.{or};
+ghost use Rattle.conda_clause.specs.Truth.{clause_holds};
+ghost use Rattle.conda_clause.specs.Tests.{IsTest, test_of};
+ghost use Rattle.conda_clause.specs.declared.test.Test.{Test};
 ghost use Rattle.conda_clause.specs.Kept.{kept};
-ghost use Rattle.conda_clause.specs.Tests.{ends_with};
+ghost use Rattle.conda_base.specs.Texts.{ends_with};
 
 /// What holds of the text of every clause: it isn't empty, and each of its characters is one that a clause may hold.
 pub fn clause_laws()
@@ -26,4 +30,15 @@ pub fn kept_laws()
 pub fn grammar_laws()
     ensures only { (text : List ℕ) → clause_fault text ≡ None → IsClause text }
     ensures all { (text : List ℕ) → IsClause text → clause_fault text ≡ None }
+{}
+
+/// What a clause says is what its tree says, however it is read as one.
+pub fn truth_laws()
+    ensures tree { (text : List ℕ) (tree : Tree or) → Writes tree text → (version : List ℕ) → clause_holds text version ≡ tree_holds tree version }
+{}
+
+/// The table of tests.
+pub fn test_laws()
+    ensures only { (text : List ℕ) (test : Test) → test_of text ≡ Some test → IsTest text test }
+    ensures all { (text : List ℕ) (test : Test) → IsTest text test → test_of text ≡ Some test }
 {}
