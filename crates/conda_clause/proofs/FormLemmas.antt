@@ -4,6 +4,7 @@ use Rattle.std.proofs.lemmas.Bool.Decides.{nat_tests}
 use Rattle.std.proofs.lemmas.List.{take_at}
 use Rattle.std.proofs.lemmas.List.Folds.{list_all-append}
 use Rattle.std.specs.Prelude.{if◌then◌else◌, ◌==◌, ◌&&◌, ◌||◌, Contains, is_none, option_and_then, slice_get}
+use Rattle.std.specs.Cmp.Lexicographic.{pointwise}
 use Rattle.std.specs.List.{AllByRecursion, list_all, slice_index_or}
 use Rattle.std.specs.Option.{option_map, option_map_or}
 use Rattle.conda_base.specs.Signs.{dot, equals, exclamation, greater, less, star, tilde}
@@ -178,18 +179,22 @@ star_off dot_star v h =
     ∙ ap (λ d. without_by true d (v ++ codes ".*")) (ap (ends_with dot) short ∙ ends_at v dot dot)
     ∙ ap shortened short ∙ shortened_is v dot
 
-not_any : (sign : Sign) (ending : Ending) (v : List ℕ) → IsFaultless v → is_any sign (ended ending v) ≡ false
-not_any sign ending [] h = absurd cc
-not_any sign ending (b ∷ bs) h = by_ending ending (unlike is_version_char b star (and_left (is_version_char b) (list_all is_version_char bs) (version_chars (b ∷ bs) h)) refl)
+not_star : (sign : Sign) (b : ℕ) (bs : List ℕ) → (b == star) ≡ false → is_any sign (b ∷ bs) ≡ false
+not_star sign b bs h = ap (λ k. is_equal_sign sign && (k && pointwise nat_eq bs [])) h ∙ never (is_equal_sign sign)
   where
     never : (k : Bool) → (k && false) ≡ false
     never true = refl
     never false = refl
 
+not_any : (sign : Sign) (ending : Ending) (v : List ℕ) → IsFaultless v → is_any sign (ended ending v) ≡ false
+not_any sign ending [] h = absurd cc
+not_any sign ending (b ∷ bs) h =
+    by_ending ending (unlike is_version_char b star (and_left (is_version_char b) (list_all is_version_char bs) (version_chars (b ∷ bs) h)) refl)
+  where
     by_ending : (e : Ending) → (b == star) ≡ false → is_any sign (ended e (b ∷ bs)) ≡ false
-    by_ending bare f = ?a
-    by_ending star_only f = ?b
-    by_ending dot_star f = ?c
+    by_ending bare f = not_star sign b bs f
+    by_ending star_only f = not_star sign b (bs ++ codes "*") f
+    by_ending dot_star f = not_star sign b (bs ++ codes ".*") f
 
 -- A test is read by its sign, its version and its star.
 pub form : (sign : Sign) (ending : Ending) (v : List ℕ) → IsFaultless v → test_of (behind_sign sign (ended ending v)) ≡ test_with sign (has_star ending) v
@@ -317,10 +322,23 @@ star_split s = by_star (ends_with star s) (ends_with dot (shortened s)) refl ref
       refl,
     )
 
-any_formed : (sign : Sign) (w : List ℕ) → is_any sign w ≡ true → IsTest (behind_sign sign w) Any
-any_formed sign [] h = ?d
-any_formed sign (c ∷ []) h = ?e
-any_formed sign (c ∷ d ∷ ds) h = ?f
+any_is : (sign : Sign) (w : List ℕ) → is_any sign w ≡ true → (is_equal_sign sign ≡ true) × (w ≡ codes "*")
+any_is sign [] h = absurd (true≢false (sym (and_right (is_equal_sign sign) false h)))
+any_is sign (c ∷ []) h =
+    (and_left (is_equal_sign sign) (nat_eq c star && true) h,
+    ap (λ d. d ∷ []) (test_equal c star (and_left (nat_eq c star) true (and_right (is_equal_sign sign) (nat_eq c star && true) h))))
+any_is sign (c ∷ d ∷ ds) h = absurd (true≢false (sym (and_right (nat_eq c star) false (and_right (is_equal_sign sign) (nat_eq c star && false) h))))
+
+any_formed : (sign : Sign) → is_equal_sign sign ≡ true → IsTest (behind_sign sign (codes "*")) Any
+any_formed Plain h = (tt, (0, lit< tt, refl))
+any_formed Single h = (tt, (1, lit< tt, refl))
+any_formed Double h = (tt, (2, lit< tt, refl))
+any_formed Unequal h = absurd cc
+any_formed Below h = absurd cc
+any_formed AtMost h = absurd cc
+any_formed Above h = absurd cc
+any_formed AtLeast h = absurd cc
+any_formed Near h = absurd cc
 
 pub version_text_some : (x v : List ℕ) → version_text x ≡ Some v → IsFaultless x × (x ≡ v)
 version_text_some x v e = by_offence (offence x) refl e
@@ -334,7 +352,10 @@ read_table text test h = by_any (is_any (sign_of text) (signed text)) refl (vers
   where
     by_any : (k : Bool) → is_any (sign_of text) (signed text) ≡ k → (o : Option (List ℕ)) → version_text (without_star (signed text)) ≡ o
         → (if k then Some Any else option_and_then (test_with (sign_of text) (ends_with star (signed text))) o) ≡ Some test → IsTest text test
-    by_any true e o f g = given text test Any g (subst (λ t. IsTest t Any) (sym (sign_split text)) (any_formed (sign_of text) (signed text) e))
+    by_any true e o f g =
+        let any = any_is (sign_of text) (signed text) e in
+        let whole : text ≡ behind_sign (sign_of text) (codes "*") = sign_split text ∙ ap (behind_sign (sign_of text)) any.1 in
+        given text test Any g (subst (λ t. IsTest t Any) (sym whole) (any_formed (sign_of text) any.0))
     by_any false e None f g = absurd cc
     by_any false e (Some v) f g =
         let version = version_text_some (without_star (signed text)) v f in
@@ -342,3 +363,54 @@ read_table text test h = by_any (is_any (sign_of text) (signed text)) refl (vers
         let whole : text ≡ behind_sign (sign_of text) (ended split.0 v) = sign_split text ∙ ap (behind_sign (sign_of text)) (split.1 ∙ ap (ended split.0) version.1) in
         let found : test_with (sign_of text) (has_star split.0) v ≡ Some test = sym (ap (λ s. test_with (sign_of text) s v) split.2) ∙ g in
         subst (λ t. IsTest t test) (sym whole) (formed (sign_of text) split.0 v test (subst IsFaultless version.1 version.0) found)
+
+-- What a test looks like.
+
+-- a character of a test
+abbrev pub is_test_char : ℕ → Bool
+is_test_char b = is_beside b || (b == equals || b == less || b == greater || b == exclamation || b == tilde)
+
+some_version : (v : List ℕ) → IsFaultless v → 0 < length v
+some_version [] h = absurd cc
+some_version (b ∷ bs) h = omega arith
+
+-- behind its sign stands something, of characters of versions and stars
+pub record IsBody (w : List ℕ) : Type 0 where
+  pub some : 0 < length w
+  pub chars : list_all is_beside w ≡ true
+
+ended_body : (ending : Ending) (v : List ℕ) → IsFaultless v → IsBody (ended ending v)
+ended_body ending v h = record { some = by_ending ending (some_version v h); chars = ended_beside ending v h }
+  where
+    by_ending : (e : Ending) → 0 < length v → 0 < length (ended e v)
+    by_ending bare k = k
+    by_ending star_only k = omega (arith, length-append v (codes "*"))
+    by_ending dot_star k = omega (arith, length-append v (codes ".*"))
+
+pub test_body : (text : List ℕ) (test : Test) → test_of text ≡ Some test → IsBody (signed text)
+test_body text test h = by_any (is_any (sign_of text) (signed text)) refl (version_text (without_star (signed text))) refl h
+  where
+    by_any : (k : Bool) → is_any (sign_of text) (signed text) ≡ k → (o : Option (List ℕ)) → version_text (without_star (signed text)) ≡ o
+        → (if k then Some Any else option_and_then (test_with (sign_of text) (ends_with star (signed text))) o) ≡ Some test → IsBody (signed text)
+    by_any true e o f g = subst IsBody (sym (any_is (sign_of text) (signed text) e).1) (record { some = lit< tt; chars = refl })
+    by_any false e None f g = absurd cc
+    by_any false e (Some v) f g =
+        let split = star_split (signed text) in
+        subst IsBody (sym split.1) (ended_body split.0 (without_star (signed text)) (version_text_some (without_star (signed text)) v f).0)
+
+behind_chars : (sign : Sign) (w : List ℕ) → list_all is_test_char w ≡ true → list_all is_test_char (behind_sign sign w) ≡ true
+behind_chars Plain w h = h
+behind_chars Single w h = h
+behind_chars Double w h = h
+behind_chars Unequal w h = h
+behind_chars Below w h = h
+behind_chars AtMost w h = h
+behind_chars Above w h = h
+behind_chars AtLeast w h = h
+behind_chars Near w h = h
+
+pub test_chars : (text : List ℕ) (test : Test) → test_of text ≡ Some test → list_all is_test_char text ≡ true
+test_chars text test h =
+    let more : list_all is_test_char (signed text) ≡ true = all_more is_beside is_test_char
+    (λ b k. ap (λ q. q || (b == equals || b == less || b == greater || b == exclamation || b == tilde)) k) (signed text) (test_body text test h).chars in
+    ap (list_all is_test_char) (sign_split text) ∙ behind_chars (sign_of text) (signed text) more

@@ -10,3 +10,4 @@ pub mod EndLemmas
 pub mod GrammarLemmas
 pub mod TruthLemmas
 pub mod FormLemmas
+pub mod SpellLemmas
