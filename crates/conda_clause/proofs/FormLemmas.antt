@@ -150,7 +150,7 @@ signed_found Above w = refl
 signed_found AtLeast w = refl
 signed_found Near w = refl
 
-ended_beside : (ending : Ending) (v : List ℕ) → IsFaultless v → list_all is_beside (ended ending v) ≡ true
+pub ended_beside : (ending : Ending) (v : List ℕ) → IsFaultless v → list_all is_beside (ended ending v) ≡ true
 ended_beside bare v h = version_beside v h
 ended_beside star_only v h = list_all-append is_beside v (codes "*") ∙ and_both (list_all is_beside v) true (version_beside v h) refl
 ended_beside dot_star v h = list_all-append is_beside v (codes ".*") ∙ and_both (list_all is_beside v) true (version_beside v h) refl
@@ -205,7 +205,7 @@ form sign ending v h =
 
 -- What is in the table is read.
 
-of_all : (P : List ℕ → Type 0) (xs : List (List ℕ)) → AllByRecursion P xs → (x : List ℕ) → Contains xs x → P x
+pub of_all : (P : List ℕ → Type 0) (xs : List (List ℕ)) → AllByRecursion P xs → (x : List ℕ) → Contains xs x → P x
 of_all P [] all x (k, less, is) = absurd (omega arith)
 of_all P (y ∷ ys) all x (zero, less, is) = subst P is all.0
 of_all P (y ∷ ys) all x (suc k, less, is) = of_all P ys all.1 x (k, omega arith, is)

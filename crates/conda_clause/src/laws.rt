@@ -8,6 +8,7 @@ ghost use Rattle.conda_clause.specs.Truth.{clause_holds};
 ghost use Rattle.conda_clause.specs.Tests.{IsTest, test_of};
 ghost use Rattle.conda_clause.specs.declared.test.Test.{Test};
 ghost use Rattle.conda_clause.specs.Kept.{kept};
+ghost use Rattle.conda_base.specs.Signs.{bar, close_paren, comma, equals, greater, less, open_paren, space};
 ghost use Rattle.conda_base.specs.Texts.{ends_with};
 
 /// What holds of the text of every clause: it isn't empty, and each of its characters is one that a clause may hold.
@@ -15,14 +16,14 @@ pub fn clause_laws()
     ensures some { (text : List ℕ) → clause_fault text ≡ None → 0 < length text }
     ensures chars { (text : List ℕ) → clause_fault text ≡ None → list_all is_clause_char text ≡ true }
     // It begins with no joint, and ends with none of `,`, `|`, `<`, `>` and `=`.
-    ensures front { (text : List ℕ) → clause_fault text ≡ None → (bs : List ℕ) → (text ≡ 44 ∷ bs → ⊥) × (text ≡ 124 ∷ bs → ⊥) }
-    ensures back { (text : List ℕ) → clause_fault text ≡ None → (ends_with 44 text ≡ false) × (ends_with 124 text ≡ false) × (ends_with 60 text ≡ false) × (ends_with 62 text ≡ false) × (ends_with 61 text ≡ false) }
+    ensures front { (text : List ℕ) → clause_fault text ≡ None → (bs : List ℕ) → (text ≡ comma ∷ bs → ⊥) × (text ≡ bar ∷ bs → ⊥) }
+    ensures back { (text : List ℕ) → clause_fault text ≡ None → (ends_with comma text ≡ false) × (ends_with bar text ≡ false) × (ends_with less text ≡ false) × (ends_with greater text ≡ false) × (ends_with equals text ≡ false) }
 {}
 
 /// A text without spaces is kept as it is, and each of its characters stays where it stood. No place lies behind the end of a text.
 pub fn kept_laws()
-    ensures same { (text : List ℕ) → list_all (λ b. not (b == 32)) text ≡ true → kept text ≡ text }
-    ensures places { (text : List ℕ) → list_all (λ b. not (b == 32)) text ≡ true → (i : ℕ) → i ≤ length text → place_of text i ≡ i }
+    ensures same { (text : List ℕ) → list_all (λ b. not (b == space)) text ≡ true → kept text ≡ text }
+    ensures places { (text : List ℕ) → list_all (λ b. not (b == space)) text ≡ true → (i : ℕ) → i ≤ length text → place_of text i ≡ i }
     ensures inside { (text : List ℕ) (i : ℕ) → place_of text i ≤ length text }
 {}
 

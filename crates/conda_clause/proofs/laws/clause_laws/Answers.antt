@@ -1,5 +1,5 @@
-use Rattle.conda_clause.proofs.EndLemmas.{begins_well, ends_well}
-use Rattle.conda_clause.proofs.FaultLemmas.{clause_chars, some_text}
+use Rattle.conda_clause.proofs.EndLemmas.{begins_well, clause_chars, ends_well}
+use Rattle.conda_clause.proofs.FaultLemmas.{some_text}
 use Rattle.conda_clause.proofs.laws.clause_laws.Goals as goal
 
 pub returns : goal.returns
