@@ -15,20 +15,20 @@ use Rattle.conda_clause.specs.declared.token.Token.TheVariants as token
 use Rattle.conda_clause.specs.Clause.{beside_build, clause_fault, is_single, starred, starred_test}
 use Rattle.conda_clause.specs.Pieces.{pieces, tokens}
 use Rattle.conda_clause.specs.Tests.{IsFaultless, IsTest, sign_of, test_of, test_texts}
-use Rattle.conda_clause.specs.Tree.Tree.{part, single, test}
+use Rattle.conda_clause.specs.Tree.Tree.{part, single, test as alone}
 use Rattle.conda_clause.proofs.FaultLemmas.{left_none, tokens_all}
 use Rattle.conda_clause.proofs.FormLemmas.{dot_star, ended_beside, form, of_all, plain_sign, read_table}
 use Rattle.conda_clause.proofs.GrammarLemmas.{clause_all}
 use Rattle.conda_clause.proofs.SpellLemmas.{Spells, test_means, text_spells}
-use Rattle.conda_clause.proofs.TestLemmas.{and_both, and_left, and_right, test_equal}
+use Rattle.conda_clause.proofs.TestLemmas.{NoDotEnd, and_both, and_left, and_right, test_equal}
 
 -- what a text of one test is
 record IsOneTest (text : List ℕ) (t : Test) : Type 0 where
   pub good : clause_fault text ≡ None
   pub token : tokens text ≡ token.Test t ∷ []
 
-one_test : (text : List ℕ) (t : Test) → test_of text ≡ Some t → IsOneTest text t
-one_test text t h = record { good = clause_all text (part (single (test t)), read_table text t h, lit≤ tt); token = (test_means text t h).tokens }
+one_test : (law : NoDotEnd) (text : List ℕ) (t : Test) → test_of text ≡ Some t → IsOneTest text t
+one_test law text t h = record { good = clause_all law text (part (single (alone t)), read_table text t h, lit≤ tt); token = (test_means text t h).tokens }
 
 -- Lower case, a character at a time.
 
@@ -99,22 +99,22 @@ star_fixed : (v : List ℕ) → IsFaultless v → beside_build (v ++ codes ".*")
 star_fixed v h =
     ap (λ s. if is_single s then starred (v ++ codes ".*") (tokens (v ++ codes ".*")) else v ++ codes ".*") (plain_sign (v ++ codes ".*") (ended_beside dot_star v h))
 
-by_test : (text : List ℕ) (test : Test) → clause_fault text ≡ None → map to_ascii_lowercase text ≡ text → beside_build text ≡ starred_test text test
+by_test : (law : NoDotEnd) (text : List ℕ) (test : Test) → clause_fault text ≡ None → map to_ascii_lowercase text ≡ text → beside_build text ≡ starred_test text test
     → tokens text ≡ token.Test test ∷ [] → IsBeside text
-by_test text (Starts v) good lower e is =
+by_test law text (Starts v) good lower e is =
     let version = only_version text v good lower is in
-    turns text (v ++ codes ".*") (Starts v) e (one_test (v ++ codes ".*") (Starts v) (form Plain dot_star v version.0))
+    turns text (v ++ codes ".*") (Starts v) e (one_test law (v ++ codes ".*") (Starts v) (form law Plain dot_star v version.0))
     (map-append to_ascii_lowercase v (codes ".*") ∙ ap (λ bs. bs ++ codes ".*") version.1) (star_fixed v version.0) is
-by_test text Any good lower e is = turns text (codes "*") Any e (one_test (codes "*") Any refl) refl refl is
-by_test text test good lower e is = stays text good lower e
+by_test law text Any good lower e is = turns text (codes "*") Any e (one_test law (codes "*") Any refl) refl refl is
+by_test law text test good lower e is = stays text good lower e
 
-by_tokens : (text : List ℕ) (ts : List Token) → clause_fault text ≡ None → map to_ascii_lowercase text ≡ text → beside_build text ≡ starred text ts → tokens text ≡ ts → IsBeside text
-by_tokens text (token.Test test ∷ []) good lower e is = by_test text test good lower e is
-by_tokens text ts good lower e is = stays text good lower e
+by_tokens : (law : NoDotEnd) (text : List ℕ) (ts : List Token) → clause_fault text ≡ None → map to_ascii_lowercase text ≡ text → beside_build text ≡ starred text ts → tokens text ≡ ts → IsBeside text
+by_tokens law text (token.Test test ∷ []) good lower e is = by_test law text test good lower e is
+by_tokens law text ts good lower e is = stays text good lower e
 
-pub is_beside_build : (text : List ℕ) → clause_fault text ≡ None → map to_ascii_lowercase text ≡ text → IsBeside text
-is_beside_build text good lower = by_single (is_single (sign_of text)) refl
+pub is_beside_build : (law : NoDotEnd) (text : List ℕ) → clause_fault text ≡ None → map to_ascii_lowercase text ≡ text → IsBeside text
+is_beside_build law text good lower = by_single (is_single (sign_of text)) refl
   where
     by_single : (k : Bool) → is_single (sign_of text) ≡ k → IsBeside text
     by_single false e = stays text good lower (ap (λ k. if k then starred text (tokens text) else text) e)
-    by_single true e = by_tokens text (tokens text) good lower (ap (λ k. if k then starred text (tokens text) else text) e) refl
+    by_single true e = by_tokens law text (tokens text) good lower (ap (λ k. if k then starred text (tokens text) else text) e) refl

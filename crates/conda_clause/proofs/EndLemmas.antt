@@ -14,7 +14,7 @@ use Rattle.conda_clause.specs.Tree.Tree.{both, either, parens, part, single, tes
 use Rattle.conda_clause.proofs.FaultLemmas.{no_bar, no_comma}
 use Rattle.conda_clause.proofs.FormLemmas.{ends_at, is_beside, is_test_char, table_read, test_body, test_chars}
 use Rattle.conda_clause.proofs.GrammarLemmas.{clause_only}
-use Rattle.conda_clause.proofs.TestLemmas.{all_more, and_both, and_left, and_right, unlike}
+use Rattle.conda_clause.proofs.TestLemmas.{NoDotEnd, all_more, and_both, and_left, and_right, unlike}
 
 clause_char : (b : ℕ) → is_test_char b ≡ true → is_clause_char b ≡ true
 clause_char b h = grind (arith, nat_tests)
@@ -25,19 +25,19 @@ joint_chars s m t h f g =
     list_all-append is_clause_char s (m ∷ t)
     ∙ and_both (list_all is_clause_char s) (list_all is_clause_char (m ∷ t)) f (and_both (is_clause_char m) (list_all is_clause_char t) h g)
 
-writes_chars : {rank : Rank} (tree : Tree rank) (text : List ℕ) → Writes tree text → list_all is_clause_char text ≡ true
-writes_chars (part p) text h = writes_chars p text h
-writes_chars (either p more) text h = ap (list_all is_clause_char) h.2 ∙ joint_chars h.0 bar h.1 refl (writes_chars p h.0 h.3) (writes_chars more h.1 h.4)
-writes_chars (single a) text h = writes_chars a text h
-writes_chars (both a more) text h = ap (list_all is_clause_char) h.2 ∙ joint_chars h.0 comma h.1 refl (writes_chars a h.0 h.3) (writes_chars more h.1 h.4)
-writes_chars (test t) text h = all_more is_test_char is_clause_char clause_char text (test_chars text t (table_read text t h))
-writes_chars (parens inside) text h =
+writes_chars : (law : NoDotEnd) {rank : Rank} (tree : Tree rank) (text : List ℕ) → Writes tree text → list_all is_clause_char text ≡ true
+writes_chars law (part p) text h = writes_chars law p text h
+writes_chars law (either p more) text h = ap (list_all is_clause_char) h.2 ∙ joint_chars h.0 bar h.1 refl (writes_chars law p h.0 h.3) (writes_chars law more h.1 h.4)
+writes_chars law (single a) text h = writes_chars law a text h
+writes_chars law (both a more) text h = ap (list_all is_clause_char) h.2 ∙ joint_chars h.0 comma h.1 refl (writes_chars law a h.0 h.3) (writes_chars law more h.1 h.4)
+writes_chars law (test t) text h = all_more is_test_char is_clause_char clause_char text (test_chars text t (table_read law text t h))
+writes_chars law (parens inside) text h =
     ap (list_all is_clause_char) h.1
-    ∙ joint_chars [] open_paren (h.0 ++ close_paren ∷ []) refl refl (joint_chars h.0 close_paren [] refl (writes_chars inside h.0 h.2) refl)
+    ∙ joint_chars [] open_paren (h.0 ++ close_paren ∷ []) refl refl (joint_chars h.0 close_paren [] refl (writes_chars law inside h.0 h.2) refl)
 
 -- each character of a clause is one that a clause may hold
-pub clause_chars : (text : List ℕ) → clause_fault text ≡ None → list_all is_clause_char text ≡ true
-clause_chars text h = let is = clause_only text h in writes_chars is.0 text is.1
+pub clause_chars : (law : NoDotEnd) (text : List ℕ) → clause_fault text ≡ None → list_all is_clause_char text ≡ true
+clause_chars law text h = let is = clause_only text h in writes_chars law is.0 text is.1
 
 -- a character at the end of a clause
 abbrev is_last : ℕ → Bool
@@ -60,26 +60,26 @@ body_ends (b ∷ c ∷ cs) h k =
 joint_ends : (text front : List ℕ) (joint : ℕ) (back : List ℕ) → text ≡ front ++ joint ∷ back → EndsWell back → EndsWell text
 joint_ends text front joint back e h = behind_ends text (front ++ joint ∷ []) back (e ∙ sym (append_assoc front (joint ∷ []) back)) h
 
-writes_ends : {rank : Rank} (tree : Tree rank) (text : List ℕ) → Writes tree text → EndsWell text
-writes_ends (part p) text h = writes_ends p text h
-writes_ends (either p more) text h = joint_ends text h.0 bar h.1 h.2 (writes_ends more h.1 h.4)
-writes_ends (single a) text h = writes_ends a text h
-writes_ends (both a more) text h = joint_ends text h.0 comma h.1 h.2 (writes_ends more h.1 h.4)
-writes_ends (test t) text h =
-    let body = test_body text t (table_read text t h) in
+writes_ends : (law : NoDotEnd) {rank : Rank} (tree : Tree rank) (text : List ℕ) → Writes tree text → EndsWell text
+writes_ends law (part p) text h = writes_ends law p text h
+writes_ends law (either p more) text h = joint_ends text h.0 bar h.1 h.2 (writes_ends law more h.1 h.4)
+writes_ends law (single a) text h = writes_ends law a text h
+writes_ends law (both a more) text h = joint_ends text h.0 comma h.1 h.2 (writes_ends law more h.1 h.4)
+writes_ends law (test t) text h =
+    let body = test_body text t (table_read law text t h) in
     let n : ℕ = sign_len (sign_of text) in
     behind_ends text (take n text) (signed text) (sym (take-append-drop n text)) (body_ends (signed text) body.some body.chars)
-writes_ends (parens inside) text h = (open_paren ∷ h.0, close_paren, h.1, refl)
+writes_ends law (parens inside) text h = (open_paren ∷ h.0, close_paren, h.1, refl)
 
 never_last : (k : ℕ) → is_last k ≡ false → (text : List ℕ) → EndsWell text → ends_with k text ≡ false
 never_last k f text h = ap (ends_with k) h.2 ∙ ends_at h.0 k h.1 ∙ unlike is_last h.1 k h.3 f
 
 -- no clause ends with `,`, `|`, `<`, `>` or `=`
-pub ends_well : (text : List ℕ) → clause_fault text ≡ None
+pub ends_well : (law : NoDotEnd) (text : List ℕ) → clause_fault text ≡ None
     → (ends_with comma text ≡ false) × (ends_with bar text ≡ false) × (ends_with less text ≡ false) × (ends_with greater text ≡ false) × (ends_with equals text ≡ false)
-ends_well text h =
+ends_well law text h =
     let is = clause_only text h in
-    let well = writes_ends is.0 text is.1 in
+    let well = writes_ends law is.0 text is.1 in
     (never_last comma refl text well, never_last bar refl text well, never_last less refl text well, never_last greater refl text well, never_last equals refl text well)
 
 -- and none begins with a joint

@@ -16,7 +16,7 @@ use Rattle.conda_clause.specs.declared.test.Sign.TheVariants.{Above, AtLeast, At
 use Rattle.conda_clause.specs.declared.test.Test.{Test}
 use Rattle.conda_clause.specs.declared.test.Test.TheVariants.{Any, Is, IsAbove, IsAtLeast, IsAtMost, IsBelow, IsNear, IsNot, Starts, StartsNot}
 use Rattle.conda_clause.specs.Tests.{HasVersions, IsFaultless, IsTest, is_any, is_equal_sign, is_version_char, shortened, sign_len, sign_of, signed, test_of, test_texts, test_with, version_text, without_last_part, without_star}
-use Rattle.conda_clause.proofs.TestLemmas.{all_more, and_both, and_left, and_right, no_dot_end, test_equal, test_found, unlike, version_chars, version_is}
+use Rattle.conda_clause.proofs.TestLemmas.{all_more, and_both, and_left, and_right, NoDotEnd, test_equal, test_found, unlike, version_chars, version_is}
 
 -- Characters of tests.
 
@@ -166,14 +166,14 @@ star_seen dot_star v h = ap (ends_with star) (grouped v) ∙ ends_at (v ++ codes
 without_by : Bool → Bool → List ℕ → List ℕ
 without_by s d text = if s then (if d then shortened (shortened text) else shortened text) else text
 
-star_off : (ending : Ending) (v : List ℕ) → IsFaultless v → without_star (ended ending v) ≡ v
+star_off : (law : NoDotEnd) (ending : Ending) (v : List ℕ) → IsFaultless v → without_star (ended ending v) ≡ v
 unfolding without_by
-star_off bare v h = ap (λ s. without_by s (ends_with dot (shortened v)) v) (star_seen bare v h)
-star_off star_only v h =
+star_off law bare v h = ap (λ s. without_by s (ends_with dot (shortened v)) v) (star_seen bare v h)
+star_off law star_only v h =
     let short : shortened (v ++ codes "*") ≡ v = shortened_is v star in
     ap (λ s. without_by s (ends_with dot (shortened (v ++ codes "*"))) (v ++ codes "*")) (star_seen star_only v h)
-    ∙ ap (λ d. without_by true d (v ++ codes "*")) (ap (ends_with dot) short ∙ no_dot_end v h) ∙ short
-star_off dot_star v h =
+    ∙ ap (λ d. without_by true d (v ++ codes "*")) (ap (ends_with dot) short ∙ law v h) ∙ short
+star_off law dot_star v h =
     let short : shortened (v ++ codes ".*") ≡ v ++ codes "." = ap shortened (grouped v) ∙ shortened_is (v ++ codes ".") star in
     ap (λ s. without_by s (ends_with dot (shortened (v ++ codes ".*"))) (v ++ codes ".*")) (star_seen dot_star v h)
     ∙ ap (λ d. without_by true d (v ++ codes ".*")) (ap (ends_with dot) short ∙ ends_at v dot dot)
@@ -197,11 +197,11 @@ not_any sign ending (b ∷ bs) h =
     by_ending dot_star f = not_star sign b (bs ++ codes ".*") f
 
 -- A test is read by its sign, its version and its star.
-pub form : (sign : Sign) (ending : Ending) (v : List ℕ) → IsFaultless v → test_of (behind_sign sign (ended ending v)) ≡ test_with sign (has_star ending) v
-form sign ending v h =
+pub form : (law : NoDotEnd) (sign : Sign) (ending : Ending) (v : List ℕ) → IsFaultless v → test_of (behind_sign sign (ended ending v)) ≡ test_with sign (has_star ending) v
+form law sign ending v h =
     let w : List ℕ = ended ending v in
     sym (test_found (behind_sign sign w) sign (sign_len sign) w (has_star ending) v (sym (sign_found sign w (ended_beside ending v h))) refl (signed_found sign w)
-    (not_any sign ending v h) (sym (star_seen ending v h)) (ap version_text (star_off ending v h) ∙ version_is v h))
+    (not_any sign ending v h) (sym (star_seen ending v h)) (ap version_text (star_off law ending v h) ∙ version_is v h))
 
 -- What is in the table is read.
 
@@ -214,27 +214,27 @@ near_read : (v front last : List ℕ) → IsFaultless front → cut_last dot v �
 near_read v front last h e =
     ap (λ cut. option_map (λ f. IsNear v f) (option_and_then (λ halves. version_text halves.0) cut)) e ∙ ap (option_map (λ f. IsNear v f)) (version_is front h)
 
-pub table_read : (text : List ℕ) (test : Test) → IsTest text test → test_of text ≡ Some test
-table_read text Any h = of_all (λ t. test_of t ≡ Some Any) (test_texts Any) (refl, (refl, (refl, tt))) text h.1
-table_read text (Is v) h = of_all (λ t. test_of t ≡ Some (Is v)) (test_texts (Is v)) (form Plain bare v h.0, (form Double bare v h.0, tt)) text h.1
-table_read text (IsNot v) h = of_all (λ t. test_of t ≡ Some (IsNot v)) (test_texts (IsNot v)) (form Unequal bare v h.0, tt) text h.1
-table_read text (IsBelow v) h =
-    of_all (λ t. test_of t ≡ Some (IsBelow v)) (test_texts (IsBelow v)) (form Below bare v h.0, (form Below star_only v h.0, (form Below dot_star v h.0, tt))) text h.1
-table_read text (IsAtMost v) h =
-    of_all (λ t. test_of t ≡ Some (IsAtMost v)) (test_texts (IsAtMost v)) (form AtMost bare v h.0, (form AtMost star_only v h.0, (form AtMost dot_star v h.0, tt))) text h.1
-table_read text (IsAbove v) h =
-    of_all (λ t. test_of t ≡ Some (IsAbove v)) (test_texts (IsAbove v)) (form Above bare v h.0, (form Above star_only v h.0, (form Above dot_star v h.0, tt))) text h.1
-table_read text (IsAtLeast v) h =
-    of_all (λ t. test_of t ≡ Some (IsAtLeast v)) (test_texts (IsAtLeast v)) (form AtLeast bare v h.0, (form AtLeast star_only v h.0, (form AtLeast dot_star v h.0, tt))) text h.1
-table_read text (Starts v) h =
+pub table_read : (law : NoDotEnd) (text : List ℕ) (test : Test) → IsTest text test → test_of text ≡ Some test
+table_read law text Any h = of_all (λ t. test_of t ≡ Some Any) (test_texts Any) (refl, (refl, (refl, tt))) text h.1
+table_read law text (Is v) h = of_all (λ t. test_of t ≡ Some (Is v)) (test_texts (Is v)) (form law Plain bare v h.0, (form law Double bare v h.0, tt)) text h.1
+table_read law text (IsNot v) h = of_all (λ t. test_of t ≡ Some (IsNot v)) (test_texts (IsNot v)) (form law Unequal bare v h.0, tt) text h.1
+table_read law text (IsBelow v) h =
+    of_all (λ t. test_of t ≡ Some (IsBelow v)) (test_texts (IsBelow v)) (form law Below bare v h.0, (form law Below star_only v h.0, (form law Below dot_star v h.0, tt))) text h.1
+table_read law text (IsAtMost v) h =
+    of_all (λ t. test_of t ≡ Some (IsAtMost v)) (test_texts (IsAtMost v)) (form law AtMost bare v h.0, (form law AtMost star_only v h.0, (form law AtMost dot_star v h.0, tt))) text h.1
+table_read law text (IsAbove v) h =
+    of_all (λ t. test_of t ≡ Some (IsAbove v)) (test_texts (IsAbove v)) (form law Above bare v h.0, (form law Above star_only v h.0, (form law Above dot_star v h.0, tt))) text h.1
+table_read law text (IsAtLeast v) h =
+    of_all (λ t. test_of t ≡ Some (IsAtLeast v)) (test_texts (IsAtLeast v)) (form law AtLeast bare v h.0, (form law AtLeast star_only v h.0, (form law AtLeast dot_star v h.0, tt))) text h.1
+table_read law text (Starts v) h =
     of_all (λ t. test_of t ≡ Some (Starts v)) (test_texts (Starts v))
-    (form Single bare v h.0, (form Single star_only v h.0, (form Single dot_star v h.0, (form Double star_only v h.0, (form Double dot_star v h.0,
-    (form Plain star_only v h.0, (form Plain dot_star v h.0, tt)))))))
+    (form law Single bare v h.0, (form law Single star_only v h.0, (form law Single dot_star v h.0, (form law Double star_only v h.0, (form law Double dot_star v h.0,
+    (form law Plain star_only v h.0, (form law Plain dot_star v h.0, tt)))))))
     text h.1
-table_read text (StartsNot v) h =
-    of_all (λ t. test_of t ≡ Some (StartsNot v)) (test_texts (StartsNot v)) (form Unequal star_only v h.0, (form Unequal dot_star v h.0, tt)) text h.1
-table_read text (IsNear v front) h =
-    of_all (λ t. test_of t ≡ Some (IsNear v front)) (test_texts (IsNear v front)) (form Near bare v h.0.0 ∙ near_read v front h.0.2 h.0.1 h.0.3, tt) text h.1
+table_read law text (StartsNot v) h =
+    of_all (λ t. test_of t ≡ Some (StartsNot v)) (test_texts (StartsNot v)) (form law Unequal star_only v h.0, (form law Unequal dot_star v h.0, tt)) text h.1
+table_read law text (IsNear v front) h =
+    of_all (λ t. test_of t ≡ Some (IsNear v front)) (test_texts (IsNear v front)) (form law Near bare v h.0.0 ∙ near_read v front h.0.2 h.0.1 h.0.3, tt) text h.1
 
 -- What is read is in the table.
 

