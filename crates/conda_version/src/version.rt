@@ -1,9 +1,11 @@
-ghost use Rattle.std.specs.Prelude.{◌≡◌, IfErr, IfOk, None, OnOk, true};
+ghost use Rattle.std.specs.Prelude.{◌≡◌, None};
 ghost use Rattle.std.specs.Ordering.{is_le, ordering_reverse};
 ghost use Rattle.std.specs.declared.cmp.Ordering.TheVariants.{Equal};
-ghost use Rattle.conda_version.specs.Grammar.{IsCause, offence};
-ghost use Rattle.conda_version.specs.Order.{version_cmp, version_starts};
+ghost use Rattle.conda_base.specs.Reads.{Gives};
+ghost use Rattle.conda_version.specs.Grammar.{offence, version_fault_of, version_read};
+ghost use Rattle.conda_version.specs.Order.{meaning_cmp, meaning_starts, version_cmp, version_starts};
 ghost use Rattle.conda_version.specs.Text.{trimmed};
+ghost use Rattle.conda_version.specs.Versions.{IsVersionText, Meaning};
 
 use crate::build::parts_of;
 use crate::components::Components;
@@ -24,16 +26,17 @@ pub struct Version {
 
 impl Model for Version {
     ghost use Rattle.std.specs.Prelude.{◌≡◌, List, None, ℕ};
-    ghost use Rattle.conda_version.specs.Grammar.{local_of, main_of, offence};
-    ghost use Rattle.conda_version.specs.Text.{plain, trimmed};
+    ghost use Rattle.conda_version.specs.Grammar.{meaning, offence};
+    ghost use Rattle.conda_version.specs.Order.{numbered};
+    ghost use Rattle.conda_version.specs.Text.{trimmed};
 
     ghost Value = { List ℕ };
 
     ghost view = { λ v. v.text };
 
-    ghost inverse = { λ text. record { text = text; main = main_of (plain text); local = local_of (plain text) } };
+    ghost inverse = { λ text. record { text = text; main = numbered (meaning text); local = (meaning text).local } };
 
-    ghost invariant = { λ v. (offence v.text ≡ None) × (trimmed v.text ≡ v.text) × (v.main ≡ main_of (plain v.text)) × (v.local ≡ local_of (plain v.text)) };
+    ghost invariant = { λ v. (offence v.text ≡ None) × (trimmed v.text ≡ v.text) × (v.main ≡ numbered (meaning v.text)) × (v.local ≡ (meaning v.text).local) };
 }
 
 impl Version {
@@ -42,9 +45,7 @@ impl Version {
     ///
     /// Fails with the first fault in the order of [`VersionWhy`](crate::VersionWhy), and where memory runs out.
     pub fn read(alloc: Global, text: &str) -> Result<Version, VersionErr>
-        ensures value { IfOk result (λ v. v ≡ trimmed text.now) }
-        ensures good { OnOk result (offence (trimmed text.now) ≡ None) }
-        ensures bad { IfErr result (λ e. IsCause e (offence (trimmed text.now))) }
+        ensures { Gives version_fault_of result (version_read text.now) }
     {
         let text = trimmed(text);
         let plain = plain(alloc, text.as_bytes())?;
@@ -60,7 +61,8 @@ impl Version {
     /// The order of versions: epoch, main part and local part, each by its components, these by their runs,
     /// with the number 0 for a missing run. It takes no memory. Equal versions may have other texts: `1.0` and `1`.
     pub fn compare(&self, other: &Version) -> Ordering
-        ensures { result ≡ version_cmp self.now other.now }
+        ensures value { result ≡ version_cmp self.now other.now }
+        ensures means { (v w : Meaning) → IsVersionText self.now v → IsVersionText other.now w → result ≡ meaning_cmp v w }
     {
         let order = self.main.compare(&other.main);
         if order.is_ne() {
@@ -72,7 +74,8 @@ impl Version {
     /// Whether the version starts with another: `1.2.0` and `1.2a` start with `1.2`, `1.20` does not.
     /// It takes no memory.
     pub fn starts_with(&self, other: &Version) -> bool
-        ensures { result ≡ version_starts self.now other.now }
+        ensures value { result ≡ version_starts self.now other.now }
+        ensures means { (v w : Meaning) → IsVersionText self.now v → IsVersionText other.now w → result ≡ meaning_starts v w }
     {
         if other.local.len() == 0 {
             return self.main.starts_with(&other.main);
