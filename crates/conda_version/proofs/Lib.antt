@@ -7,3 +7,4 @@ pub mod PartLemmas
 pub mod TurnLemmas
 pub mod VersionLemmas
 pub mod OrderLemmas
+pub mod StartLemmas

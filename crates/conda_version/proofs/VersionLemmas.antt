@@ -73,9 +73,13 @@ joined_sound at (p ∷ []) some short chars free none = component_sound p (some_
 joined_sound at (p ∷ q ∷ ps) some short chars free none =
     let rest : List ℕ = join_with_byte dot (q ∷ ps) in
     let next = some_of p at (empty_from (at + length p + 1) (q ∷ ps)) none in
-    let parts = all_front is_part_char p (dot ∷ rest) chars in
-    (p, rest, refl, component_sound p next.0 (short_front p (dot ∷ rest) short) (piece_chars p parts.0 free.0),
-      joined_sound (at + length p + 1) (q ∷ ps) (omega arith) (short_back (dot ∷ []) rest (short_back p (dot ∷ rest) short)) parts.1 free.1 next.1)
+    let parts = all_front is_part_char p (dot ∷ rest) chars in (
+      p,
+      rest,
+      refl,
+      component_sound p next.0 (short_front p (dot ∷ rest) short) (piece_chars p parts.0 free.0),
+      joined_sound (at + length p + 1) (q ∷ ps) (omega arith) (short_back (dot ∷ []) rest (short_back p (dot ∷ rest) short)) parts.1 free.1 next.1,
+    )
 
 pub part_sound : (at : ℕ) (dotted : List ℕ) → HasShortRuns dotted → list_all is_part_char dotted ≡ true → empty_from at (pieces dotted) ≡ None → AreComponents dotted (components_of dotted)
 part_sound at dotted short chars none =

@@ -53,8 +53,10 @@ version_cmp v w = meaning_cmp (meaning v) (meaning w)
 -- All elements of ys but the last are those of xs, which is padded at its end, and the last one begins that of xs.
 abbrev pub all_begin : {A : Type 0} → (A → A → Bool) → (A → A → Bool) → A → List A → List A → Bool
 all_begin same begins pad xs [] = true
-all_begin same begins pad xs (y ∷ []) = begins (slice_index_or xs 0 pad) y
-all_begin same begins pad xs (y ∷ z ∷ ys) = same (slice_index_or xs 0 pad) y && all_begin same begins pad (drop 1 xs) (z ∷ ys)
+all_begin same begins pad [] (y ∷ []) = begins pad y
+all_begin same begins pad (x ∷ xs) (y ∷ []) = begins x y
+all_begin same begins pad [] (y ∷ z ∷ ys) = same pad y && all_begin same begins pad [] (z ∷ ys)
+all_begin same begins pad (x ∷ xs) (y ∷ z ∷ ys) = same x y && all_begin same begins pad xs (z ∷ ys)
 
 -- equal runs, or two texts of which the first begins with the second
 abbrev pub run_starts : Run → Run → Bool

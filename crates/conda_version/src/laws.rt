@@ -6,12 +6,16 @@ ghost use Rattle.std.specs.List.{list_all};
 ghost use Rattle.conda_base.specs.Signs.{dot};
 ghost use Rattle.conda_base.specs.Texts.{ends_with};
 ghost use Rattle.conda_version.specs.Grammar.{is_plain, meaning, offence};
-ghost use Rattle.conda_version.specs.Order.{version_cmp};
+ghost use Rattle.conda_version.specs.Order.{meaning_cmp, meaning_starts, version_cmp, version_starts};
 ghost use Rattle.conda_version.specs.Text.{plain, trimmed};
 ghost use Rattle.conda_version.specs.Versions.{IsVersionText, Meaning};
 
-/// The order of versions is a total preorder: versions that it finds equal may have other texts.
+/// The order of versions is a total preorder: versions that it finds equal may have other texts. It is the order of
+/// what the texts mean by the grammar: of epoch and main part, and of the local parts where these are equal.
+/// Which version starts with which goes by what they mean too.
 pub fn order_laws()
+    ensures means { (x y : List ℕ) (v w : Meaning) → IsVersionText x v → IsVersionText y w → version_cmp x y ≡ meaning_cmp v w }
+    ensures starts { (x y : List ℕ) (v w : Meaning) → IsVersionText x v → IsVersionText y w → version_starts x y ≡ meaning_starts v w }
     ensures reflexive { (v : List ℕ) → version_cmp v v ≡ Equal }
     ensures transitive { (u v w : List ℕ) → is_le (version_cmp u v) ≡ true → is_le (version_cmp v w) ≡ true → is_le (version_cmp u w) ≡ true }
     ensures total { (v w : List ℕ) → version_cmp v w ≡ ordering_reverse (version_cmp w v) }

@@ -3,9 +3,8 @@ ghost use Rattle.std.specs.Ordering.{is_le, ordering_reverse};
 ghost use Rattle.std.specs.declared.cmp.Ordering.TheVariants.{Equal};
 ghost use Rattle.conda_base.specs.Reads.{Gives};
 ghost use Rattle.conda_version.specs.Grammar.{offence, version_fault_of, version_read};
-ghost use Rattle.conda_version.specs.Order.{meaning_cmp, meaning_starts, version_cmp, version_starts};
+ghost use Rattle.conda_version.specs.Order.{version_cmp, version_starts};
 ghost use Rattle.conda_version.specs.Text.{trimmed};
-ghost use Rattle.conda_version.specs.Versions.{IsVersionText, Meaning};
 
 use crate::build::parts_of;
 use crate::components::Components;
@@ -61,8 +60,7 @@ impl Version {
     /// The order of versions: epoch, main part and local part, each by its components, these by their runs,
     /// with the number 0 for a missing run. It takes no memory. Equal versions may have other texts: `1.0` and `1`.
     pub fn compare(&self, other: &Version) -> Ordering
-        ensures value { result ≡ version_cmp self.now other.now }
-        ensures means { (v w : Meaning) → IsVersionText self.now v → IsVersionText other.now w → result ≡ meaning_cmp v w }
+        ensures { result ≡ version_cmp self.now other.now }
     {
         let order = self.main.compare(&other.main);
         if order.is_ne() {
@@ -74,8 +72,7 @@ impl Version {
     /// Whether the version starts with another: `1.2.0` and `1.2a` start with `1.2`, `1.20` does not.
     /// It takes no memory.
     pub fn starts_with(&self, other: &Version) -> bool
-        ensures value { result ≡ version_starts self.now other.now }
-        ensures means { (v w : Meaning) → IsVersionText self.now v → IsVersionText other.now w → result ≡ meaning_starts v w }
+        ensures { result ≡ version_starts self.now other.now }
     {
         if other.local.len() == 0 {
             return self.main.starts_with(&other.main);

@@ -1,4 +1,3 @@
-use Rattle.std.proofs.Common.{◌∙◌}
 use Rattle.conda_version.specs.Text.{plain}
 use Rattle.conda_version.proofs.VersionLemmas.{version_again, version_chars, version_end, version_sound}
 use Rattle.conda_version.proofs.laws.grammar_laws.Goals as goal
