@@ -68,7 +68,7 @@ only_version : (text v : List ℕ) → clause_fault text ≡ None → map to_asc
 only_version text v good lower e =
     let spelled : Spells (token.Test (Starts v) ∷ []) text =
     subst (λ ts. Spells ts text) e (text_spells text (tokens_all Atom 0 0 (pieces text) (left_none text good))) in
-    let is : IsTest text (Starts v) = subst (λ t. IsTest t (Starts v)) (sym (spelled.2 ∙ ap (λ r. spelled.0 ++ r) spelled.4 ∙ append-nil spelled.0)) spelled.3 in
+    let is : IsTest text (Starts v) = subst (λ t. IsTest t (Starts v)) (sym (spelled.2 ∙ ap (λ r. spelled.0 ++ r) spelled.4 ∙ append-nil spelled.0)) (read_table spelled.0 (Starts v) spelled.3) in
     (is.0, all_lower v (starts_lower text v is (lower_all text lower)))
 
 -- The clause beside a build is one, in lower case, of the same tokens, and stays what it is.

@@ -1,5 +1,5 @@
 -- Lemmas on tests and on the characters of versions.
-use Rattle.std.proofs.Common.{◌≡◌, ℕ, ◌<◌, ◌≤◌, Bool, true, false, cond, not, nat_lt, List, [], ◌∷◌, ◌++◌, length, map, reverse, Option, None, Some, refl, sym, ap, ◌∙◌, arith, get_or, true≢false, zero, suc, lit<}
+use Rattle.std.proofs.Common.{◌≡◌, ℕ, ◌<◌, ◌≤◌, Bool, true, false, cond, not, nat_lt, List, [], ◌∷◌, ◌++◌, length, map, reverse, Option, None, Some, Ok, Err, refl, sym, ap, ◌∙◌, arith, get_or, true≢false, zero, suc, lit<}
 use Rattle.std.proofs.lemmas.Bool.Decides.{nat_tests}
 use Rattle.std.proofs.lemmas.List.{reverse-reverse}
 use Rattle.std.proofs.lemmas.List.Folds.{list_all-append, list_all-map}
@@ -10,6 +10,7 @@ use Rattle.std.specs.List.{list_all, position, prefix_len}
 use Rattle.std.specs.Option.{option_or}
 use Rattle.std.specs.Str.{IsUtf8}
 use Rattle.conda_base.specs.Signs.{dot}
+use Rattle.conda_base.specs.Reads.{unless}
 use Rattle.conda_base.specs.Texts.{ends_with}
 use Rattle.conda_version.specs.declared.error.VersionWhy.{VersionWhy}
 use Rattle.conda_version.specs.declared.error.VersionWhy.TheVariants.{Empty, Char, Epoch, Local, Component, Numeral}
@@ -126,6 +127,15 @@ chars_ascii (b ∷ bs) h (suc i) = chars_ascii bs (and_right (is_version_char b)
 -- such characters are text
 pub chars_utf8 : (v : List ℕ) → list_all is_version_char v ≡ true → IsUtf8 v
 chars_utf8 v h = IsUtf8-from_ascii v (chars_ascii v h)
+
+-- what a reader that answers a value, or one fault, says
+pub unless_ok : {A Fault : Type 0} (o : Option Fault) (x y : A) → unless o x ≡ Ok y → (o ≡ None) × (y ≡ x)
+unless_ok None x y h = (refl, cc)
+unless_ok (Some f) x y h = absurd cc
+
+pub unless_err : {A Fault : Type 0} (o : Option Fault) (x : A) (f : Fault) → unless o x ≡ Err f → o ≡ Some f
+unless_err None x f h = absurd cc
+unless_err (Some g) x f h = cc
 
 pub version_is : (v : List ℕ) → offence v ≡ None → version_text v ≡ Some v
 version_is v h = ap (λ o. if is_none o then Some v else None) h
