@@ -57,9 +57,22 @@ front_lower v w h = and_left (list_all is_lower v) (list_all is_lower w) (sym (l
 -- the version of a test by a prefix is in lower case where the test is
 starts_lower : (text v : List ℕ) → IsTest text (Starts v) → list_all is_lower text ≡ true → list_all is_lower v ≡ true
 starts_lower text v h =
-    of_all (λ t. list_all is_lower t ≡ true → list_all is_lower v ≡ true) (test_texts (Starts v))
-    ((λ k. k), (front_lower v (codes "*"), (front_lower v (codes ".*"), (front_lower v (codes "*"), (front_lower v (codes ".*"),
-    (front_lower v (codes "*"), (front_lower v (codes ".*"), tt)))))))
+    of_all (λ t. list_all is_lower t ≡ true → list_all is_lower v ≡ true) (test_texts (Starts v)) (
+      (λ k. k),
+      (
+        front_lower v (codes "*"),
+        (
+          front_lower v (codes ".*"),
+          (
+            front_lower v (codes "*"),
+            (
+              front_lower v (codes ".*"),
+              (front_lower v (codes "*"), (front_lower v (codes ".*"), tt)),
+            ),
+          ),
+        ),
+      ),
+    )
     text h.1
 
 -- a version that is the only test of a text

@@ -227,9 +227,22 @@ table_read law text (IsAbove v) h =
 table_read law text (IsAtLeast v) h =
     of_all (λ t. test_of t ≡ Some (IsAtLeast v)) (test_texts (IsAtLeast v)) (form law AtLeast bare v h.0, (form law AtLeast star_only v h.0, (form law AtLeast dot_star v h.0, tt))) text h.1
 table_read law text (Starts v) h =
-    of_all (λ t. test_of t ≡ Some (Starts v)) (test_texts (Starts v))
-    (form law Single bare v h.0, (form law Single star_only v h.0, (form law Single dot_star v h.0, (form law Double star_only v h.0, (form law Double dot_star v h.0,
-    (form law Plain star_only v h.0, (form law Plain dot_star v h.0, tt)))))))
+    of_all (λ t. test_of t ≡ Some (Starts v)) (test_texts (Starts v)) (
+      form law Single bare v h.0,
+      (
+        form law Single star_only v h.0,
+        (
+          form law Single dot_star v h.0,
+          (
+            form law Double star_only v h.0,
+            (
+              form law Double dot_star v h.0,
+              (form law Plain star_only v h.0, (form law Plain dot_star v h.0, tt)),
+            ),
+          ),
+        ),
+      ),
+    )
     text h.1
 table_read law text (StartsNot v) h =
     of_all (λ t. test_of t ≡ Some (StartsNot v)) (test_texts (StartsNot v)) (form law Unequal star_only v h.0, (form law Unequal dot_star v h.0, tt)) text h.1
@@ -324,9 +337,10 @@ star_split s = by_star (ends_with star s) (ends_with dot (shortened s)) refl ref
 
 any_is : (sign : Sign) (w : List ℕ) → is_any sign w ≡ true → (is_equal_sign sign ≡ true) × (w ≡ codes "*")
 any_is sign [] h = absurd (true≢false (sym (and_right (is_equal_sign sign) false h)))
-any_is sign (c ∷ []) h =
-    (and_left (is_equal_sign sign) (nat_eq c star && true) h,
-    ap (λ d. d ∷ []) (test_equal c star (and_left (nat_eq c star) true (and_right (is_equal_sign sign) (nat_eq c star && true) h))))
+any_is sign (c ∷ []) h = (
+  and_left (is_equal_sign sign) (nat_eq c star && true) h,
+  ap (λ d. d ∷ []) (test_equal c star (and_left (nat_eq c star) true (and_right (is_equal_sign sign) (nat_eq c star && true) h))),
+)
 any_is sign (c ∷ d ∷ ds) h = absurd (true≢false (sym (and_right (nat_eq c star) false (and_right (is_equal_sign sign) (nat_eq c star && false) h))))
 
 any_formed : (sign : Sign) → is_equal_sign sign ≡ true → IsTest (behind_sign sign (codes "*")) Any

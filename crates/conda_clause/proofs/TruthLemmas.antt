@@ -137,4 +137,3 @@ unfolding both_of
 both_writes (single p) t a b h k = (a, b, refl, h, k)
 both_writes (both p more) t a b h k =
     (h.0, h.1 ++ comma ∷ b, ap (λ r. r ++ comma ∷ b) h.2 ∙ append_assoc h.0 (comma ∷ h.1) (comma ∷ b), h.3, both_writes more t h.1 b h.4 k)
-

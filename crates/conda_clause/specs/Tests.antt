@@ -45,7 +45,10 @@ shortened text = take (length text - 1) text
 
 -- a text without the star at its end, `.*` or `*`
 abbrev pub without_star : List ℕ → List ℕ
-without_star text = if ends_with star text then (if ends_with dot (shortened text) then shortened (shortened text) else shortened text) else text
+without_star text =
+    if ends_with star text
+    then (if ends_with dot (shortened text) then shortened (shortened text) else shortened text)
+    else text
 
 -- a character that a version may hold: a letter, a digit, or one of `.`, `_`, `+`, `!` and `-`
 abbrev pub is_version_char : ℕ → Bool
@@ -69,7 +72,8 @@ test_with Below starred v = Some (IsBelow v)
 test_with AtMost starred v = Some (IsAtMost v)
 test_with Above starred v = Some (IsAbove v)
 test_with AtLeast starred v = Some (IsAtLeast v)
-test_with Near starred v = if starred then None else option_map (λ front. IsNear v front) (without_last_part v)
+test_with Near starred v =
+    if starred then None else option_map (λ front. IsNear v front) (without_last_part v)
 
 -- none, `=` or `==`
 abbrev pub is_equal_sign : Sign → Bool
@@ -91,7 +95,8 @@ is_any sign behind = is_equal_sign sign && is_text behind (codes "*")
 abbrev pub test_of : List ℕ → Option Test
 test_of text =
     if is_any (sign_of text) (signed text) then Some Any
-    else option_and_then (test_with (sign_of text) (ends_with star (signed text))) (version_text (without_star (signed text)))
+    else option_and_then (test_with (sign_of text) (ends_with star (signed text)))
+    (version_text (without_star (signed text)))
 
 -- A test holds for a version.
 abbrev pub test_holds : Test → List ℕ → Bool
@@ -123,7 +128,8 @@ HasVersions (IsAbove v) = IsFaultless v
 HasVersions (IsAtLeast v) = IsFaultless v
 HasVersions (Starts v) = IsFaultless v
 HasVersions (StartsNot v) = IsFaultless v
-HasVersions (IsNear v front) = IsFaultless v × IsFaultless front × (last : List ℕ) × (cut_last dot v ≡ Some (front, last))
+HasVersions (IsNear v front) =
+    IsFaultless v × IsFaultless front × (last : List ℕ) × (cut_last dot v ≡ Some (front, last))
 
 -- a text with a star at its end
 abbrev pub starred : List ℕ → List (List ℕ)
@@ -138,7 +144,8 @@ test_texts (IsBelow v) = (codes "<" ++ v) ∷ starred (codes "<" ++ v)
 test_texts (IsAtMost v) = (codes "<=" ++ v) ∷ starred (codes "<=" ++ v)
 test_texts (IsAbove v) = (codes ">" ++ v) ∷ starred (codes ">" ++ v)
 test_texts (IsAtLeast v) = (codes ">=" ++ v) ∷ starred (codes ">=" ++ v)
-test_texts (Starts v) = (codes "=" ++ v) ∷ (starred (codes "=" ++ v) ++ starred (codes "==" ++ v) ++ starred v)
+test_texts (Starts v) =
+    (codes "=" ++ v) ∷ (starred (codes "=" ++ v) ++ starred (codes "==" ++ v) ++ starred v)
 test_texts (StartsNot v) = starred (codes "!=" ++ v)
 test_texts (IsNear v front) = (codes "~=" ++ v) ∷ []
 

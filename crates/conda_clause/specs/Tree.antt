@@ -1,4 +1,5 @@
--- A version clause as a tree, what it says and how it is written: conda's version.py, in this project's profile.
+-- A version clause as a tree, what it says and how it is written: conda's version.py, in this
+-- project's profile.
 use Rattle.std.specs.Prelude.{◌≡◌, ◌≤◌, ℕ, Bool, ◌&&◌, ◌||◌, ◌+◌, List, [], ◌∷◌, ◌++◌, max}
 use Rattle.conda_base.specs.Signs.{bar, close_paren, comma, open_paren}
 use Rattle.conda_clause.specs.declared.test.Test.{Test}
@@ -10,7 +11,8 @@ pub data Rank : Type 0 where
   and : Rank
   atom : Rank
 
--- A clause is parts joined by `|`, a part is atoms joined by `,`, and an atom is a test, or a clause in parentheses.
+-- A clause is parts joined by `|`, a part is atoms joined by `,`, and an atom is a test, or a
+-- clause in parentheses.
 pub data Tree : Rank → Type 0 where
   part : Tree and → Tree or
   either : Tree and → Tree or → Tree or
@@ -30,7 +32,9 @@ tree_holds (parens inside) version = tree_holds inside version
 
 -- a text with this character between two others
 abbrev pub Between : (List ℕ → Type 0) → ℕ → (List ℕ → Type 0) → List ℕ → Type 0
-Between IsFront joint IsBack text = (front : List ℕ) × (back : List ℕ) × (text ≡ front ++ joint ∷ back) × IsFront front × IsBack back
+Between IsFront joint IsBack text =
+    (front : List ℕ) × (back : List ℕ)
+    × (text ≡ front ++ joint ∷ back) × IsFront front × IsBack back
 
 -- The text writes the tree.
 abbrev pub Writes : {rank : Rank} → Tree rank → List ℕ → Type 0
@@ -39,7 +43,8 @@ Writes (either p more) text = Between (Writes p) bar (Writes more) text
 Writes (single a) text = Writes a text
 Writes (both a more) text = Between (Writes a) comma (Writes more) text
 Writes (test t) text = IsTest text t
-Writes (parens inside) text = (within : List ℕ) × (text ≡ open_paren ∷ within ++ close_paren ∷ []) × Writes inside within
+Writes (parens inside) text =
+    (within : List ℕ) × (text ≡ open_paren ∷ within ++ close_paren ∷ []) × Writes inside within
 
 -- how deep its parentheses are nested
 abbrev pub nesting : {rank : Rank} → Tree rank → ℕ

@@ -1,4 +1,5 @@
-//! Version clauses of specifications and the stars of globs, after conda's `version.py` and `match_spec.py`.
+//! Version clauses of specifications and the stars of globs, after conda's `version.py` and
+//! `match_spec.py`.
 #![tactic(auto)]
 
 mod clause;

@@ -9,7 +9,8 @@ use conda_version::Version;
 pub enum Pass {
     /// They are read.
     Read,
-    /// They are passed over, since they can't change what is said. So many parentheses were opened in them.
+    /// They are passed over, since they can't change what is said. So many parentheses were opened
+    /// in them.
     Over(usize),
 }
 
