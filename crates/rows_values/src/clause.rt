@@ -53,7 +53,10 @@ fn beside(alloc: Global, text: &str) -> Result<Option<String>, AllocError> {
 }
 
 fn holds(alloc: Global, text: &str, version: &str) -> Result<Option<String>, AllocError> {
-    match (VersionClause::read(alloc, text), Version::read(alloc, version)) {
+    match (
+        VersionClause::read(alloc, text),
+        Version::read(alloc, version),
+    ) {
         (Ok(clause), Ok(version)) => yes_or_no(alloc, clause.holds(&version)),
         _ => Ok(None),
     }
