@@ -13,7 +13,7 @@ use Rattle.conda_base.specs.Numbers.{is_digits}
 use Rattle.conda_version.specs.declared.run.Run.{Run}
 use Rattle.conda_version.specs.Grammar.{HasShortRuns, component_of, joined, run_len, runs_of}
 use Rattle.conda_version.specs.Versions.{IsComponent, IsNumeral, IsRun, IsWord, TakeTurns, begins_with_digit, is_letter, run_of, with_zero}
-use Rattle.conda_version.proofs.RunLemmas.{all_digits, all_of_prefix, beq_self, digits_are_all, first_run_value, like, run_some, runs_first, runs_of_cons, short_of_drop}
+use Rattle.conda_version.proofs.RunLemmas.{all_digits, all_of_prefix, OtherKind, beq_self, digits_are_all, first_run_value, kind_is, like, run_front, run_some, runs_first, short_of_drop, stops}
 
 -- a character of a component
 abbrev pub is_piece_char : ℕ → Bool
@@ -53,40 +53,7 @@ letters_of (x ∷ xs) h k =
     letter true l h k = absurd cc
     letter false l h k = h
 
-kind_is : (k d : Bool) → beq k d ≡ true → d ≡ k
-kind_is true true h = refl
-kind_is true false h = absurd cc
-kind_is false true h = absurd cc
-kind_is false false h = refl
-
-unlike : (k d : Bool) → d ≡ not k → beq k d ≡ false
-unlike true d h = ap (beq true) h
-unlike false d h = ap (beq false) h
-
 -- ---- the runs of a text take turns
-
--- what follows a run is of the other kind
-abbrev OtherKind : Bool → List ℕ → Type 0
-OtherKind k [] = Unit {0}
-OtherKind k (b ∷ bs) = is_ascii_digit b ≡ not k
-
-stops : (k : Bool) (xs : List ℕ) → OtherKind k (drop (prefix_len (like k) xs) xs)
-stops k [] = tt
-stops k (x ∷ xs) = by_kind (is_ascii_digit x) (like k x) refl refl (stops k xs)
-  where
-    by_kind : (d l : Bool) → is_ascii_digit x ≡ d → like k x ≡ l → OtherKind k (drop (prefix_len (like k) xs) xs) → OtherKind k (drop (prefix_len (like k) (x ∷ xs)) (x ∷ xs))
-    by_kind d true e f more =
-        let len : prefix_len (like k) (x ∷ xs) ≡ suc (prefix_len (like k) xs) = ap (λ l. cond l (1 + prefix_len (like k) xs) 0) f ∙ omega arith in
-        subst (λ n. OtherKind k (drop n (x ∷ xs))) (sym len) more
-    by_kind d false e f more =
-        let len : prefix_len (like k) (x ∷ xs) ≡ 0 = ap (λ l. cond l (1 + prefix_len (like k) xs) 0) f in
-        subst (λ n. OtherKind k (drop n (x ∷ xs))) (sym len) (other k (is_ascii_digit x) f)
-      where
-        other : (k d : Bool) → beq k d ≡ false → d ≡ not k
-        other true true h = absurd cc
-        other true false h = refl
-        other false true h = refl
-        other false false h = absurd cc
 
 turns_other : (k : Bool) (rest : List ℕ) → OtherKind k rest → TakeTurns (begins_with_digit rest) (runs_of rest) → TakeTurns (not k) (runs_of rest)
 turns_other k [] o h = tt
@@ -163,24 +130,6 @@ kind_of_run false run h = (h.0, all_as is_letter (like false) (λ b l. ap (beq f
   where
     no_digit : (b : ℕ) → is_letter b ≡ true → is_ascii_digit b ≡ false
     no_digit b h = grind (arith, nat_tests)
-
-run_front : (k : Bool) (run more : List ℕ) → 0 < length run → list_all (like k) run ≡ true → OtherKind k more → runs_of (run ++ more) ≡ run ∷ runs_of more
-run_front k [] more some h o = absurd (omega arith)
-run_front k (b ∷ []) [] some h o = refl
-run_front k (b ∷ []) (c ∷ cs) some h o =
-    let first = and_parts (like k b) true h in
-    let apart : beq (is_ascii_digit b) (is_ascii_digit c) ≡ false = ap (λ d. beq d (is_ascii_digit c)) (kind_is k (is_ascii_digit b) first.0) ∙ unlike k (is_ascii_digit c) o in
-    let front : List ℕ = take (prefix_len (like (is_ascii_digit c)) cs) cs in
-    let back : List (List ℕ) = runs_of (drop (prefix_len (like (is_ascii_digit c)) cs) cs) in
-    ap (joined b) (runs_of_cons c cs)
-    ∙ ap (λ q. cond q ((b ∷ c ∷ front) ∷ back) ((b ∷ []) ∷ (c ∷ front) ∷ back)) apart
-    ∙ ap (λ runs. (b ∷ []) ∷ runs) (sym (runs_of_cons c cs))
-run_front k (b ∷ c ∷ cs) more some h o =
-    let first = and_parts (like k b) (list_all (like k) (c ∷ cs)) h in
-    let second = and_parts (like k c) (list_all (like k) cs) first.1 in
-    let alike : beq (is_ascii_digit b) (is_ascii_digit c) ≡ true = ap (λ d. beq d (is_ascii_digit c)) (kind_is k (is_ascii_digit b) first.0) ∙ second.0 in
-    ap (joined b) (run_front k (c ∷ cs) more (omega arith) first.1 o)
-    ∙ ap (λ q. cond q ((b ∷ c ∷ cs) ∷ runs_of more) ((b ∷ []) ∷ (c ∷ cs) ∷ runs_of more)) alike
 
 other_of_turns : (k : Bool) (runs : List (List ℕ)) → TakeTurns (not k) runs → OtherKind k (concat runs)
 other_of_turns k [] t = tt

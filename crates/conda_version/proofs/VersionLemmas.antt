@@ -21,9 +21,10 @@ use Rattle.conda_version.specs.Grammar.{HasShortRuns, because, behind_epoch, cha
 use Rattle.conda_version.specs.Versions.{AreComponents, IsComponent, IsEpoch, IsLocal, IsNumeral, IsVersion, IsVersionText, Meaning, as_dot, epoch_text, local_text, main_dots}
 use Rattle.conda_version.specs.Order.{meaning_cmp, meaning_starts, version_cmp, version_starts}
 use Rattle.conda_version.specs.Text.{holds, plain, underscored}
-use Rattle.conda_version.proofs.CutLemmas.{cut_again, cut_free, place_of_free}
+use Rattle.conda_version.proofs.CutLemmas.{Cuts, place_of_free}
 use Rattle.conda_version.proofs.PartLemmas.{epoch_sound, local_sound, parts_whole, rest_is, short_epoch, short_local, short_main}
 use Rattle.conda_version.proofs.RunLemmas.{all_digits, digits_are_all, prefix_of_dots, prefix_of_main_dots, short_back, short_digits, short_from_none, short_front}
+use Rattle.conda_version.proofs.TextLemmas.{ends_back, ends_step}
 use Rattle.conda_version.proofs.TurnLemmas.{IsPiece, all_as, all_both, all_front, component_again, component_sound, is_piece_char, short_before}
 
 abbrev first_half : List ℕ × List ℕ → List ℕ
@@ -89,17 +90,6 @@ part_sound at dotted short chars none =
     (joined_sound at (pieces dotted) some (subst HasShortRuns (sym whole) short) (ap (list_all is_part_char) whole ∙ chars) (pieces_free dotted) none)
 
 -- ---- how texts end
-
-ends_step : (c x y : ℕ) (xs : List ℕ) → ends_with c (x ∷ y ∷ xs) ≡ ends_with c (y ∷ xs)
-ends_step c x y xs =
-    let last : length (x ∷ y ∷ xs) - 1 ≡ suc (length (y ∷ xs) - 1) = omega arith in
-    ap (λ i. option_map_or (λ b. b == c) (slice_get (x ∷ y ∷ xs) i) false) last
-
-ends_back : (c : ℕ) (xs ys : List ℕ) → 0 < length ys → ends_with c (xs ++ ys) ≡ ends_with c ys
-ends_back c [] ys h = refl
-ends_back c (x ∷ []) [] h = absurd (omega arith)
-ends_back c (x ∷ []) (y ∷ ys) h = ends_step c x y ys
-ends_back c (x ∷ y ∷ xs) ys h = ends_step c x y (xs ++ ys) ∙ ends_back c (y ∷ xs) ys h
 
 ends_of_free : (c : ℕ) (xs : List ℕ) → IsFreeOf c xs → ends_with c xs ≡ false
 ends_of_free c [] h = refl
@@ -282,32 +272,32 @@ local_sound_of text (Some part) chars e p short none =
     let behind = all_front is_plain (plus ∷ []) part chars in
     part_sound (length text - length part) (map as_dot part) short (dots_chars part ∙ part_chars part behind.1 e.1 p) none
 
-epoch_sound_of : (text : List ℕ) (epoch : Option (List ℕ)) → epoch ≡ epoch_part text → epoch_fault text ≡ None → HasShortRuns text
+epoch_sound_of : Cuts → (text : List ℕ) (epoch : Option (List ℕ)) → epoch ≡ epoch_part text → epoch_fault text ≡ None → HasShortRuns text
     → IfSome epoch (λ digits. is_digits digits ≡ true) → IsEpoch epoch (option_map_or (digits_value 10) epoch 0)
-epoch_sound_of text None same good short digits = refl
-epoch_sound_of text (Some part) same good short digits = ((digits, (short_epoch text part same good short).1), refl)
+epoch_sound_of cuts text None same good short digits = refl
+epoch_sound_of cuts text (Some part) same good short digits = ((digits, (short_epoch cuts text part same good short).1), refl)
 
-pub version_sound : (text : List ℕ) → fault text ≡ None → IsVersion text (plain_meaning text)
-version_sound text h =
+pub version_sound : Cuts → (text : List ℕ) → fault text ≡ None → IsVersion text (plain_meaning text)
+version_sound cuts text h =
     let sound = sound_from text h in
     let main : List ℕ = main_part text in
     let local : Option (List ℕ) = local_part text in
     let short : HasShortRuns text = record { each = short_from_none 0 text sound.numerals } in
-    let epochs = epoch_sound text sound.epoch in
-    let locals = local_sound text sound.local in
-    let whole = parts_whole text in
+    let epochs = epoch_sound cuts text sound.epoch in
+    let locals = local_sound cuts text sound.local in
+    let whole = parts_whole cuts text in
     let chars : list_all is_plain (epoch_text (epoch_part text) ++ (main ++ local_text local)) ≡ true =
     ap (list_all is_plain) (sym whole) ∙ plain_from text sound.chars in
     let parts = all_front is_plain main (local_text local) (all_front is_plain (epoch_text (epoch_part text)) (main ++ local_text local) chars).1 in
-    let free = free_back exclamation main (local_text local) (subst (IsFreeOf exclamation) (rest_is text) epochs.1) in
+    let free = free_back exclamation main (local_text local) (subst (IsFreeOf exclamation) (rest_is cuts text) epochs.1) in
     record {
       epoch = epoch_part text;
       main = main;
       local = local;
       whole = whole;
-      epoch_means = epoch_sound_of text (epoch_part text) refl sound.epoch short epochs.0;
-      main_means = part_sound (main_start text) (main_dots main) (short_main text short) (main_chars main ∙ part_chars main parts.0 free.0 locals.0) sound.main_components;
-      local_means = local_sound_of text local parts.1 free.1 locals.1 (short_local text short) sound.local_components;
+      epoch_means = epoch_sound_of cuts text (epoch_part text) refl sound.epoch short epochs.0;
+      main_means = part_sound (main_start text) (main_dots main) (short_main cuts text short) (main_chars main ∙ part_chars main parts.0 free.0 locals.0) sound.main_components;
+      local_means = local_sound_of text local parts.1 free.1 locals.1 (short_local cuts text short) sound.local_components;
     }
 
 -- ---- what is in the grammar is read
@@ -403,21 +393,21 @@ record IsFront (epoch : Option (List ℕ)) (value : ℕ) : Type 0 where
   short : (rest : List ℕ) → HasShortRuns rest → HasShortRuns (epoch_text epoch ++ rest)
   chars : list_all is_plain (epoch_text epoch) ≡ true
 
-front_again : (epoch : Option (List ℕ)) (number : ℕ) → IsEpoch epoch number → IsFront epoch number
-front_again None number h = record {
+front_again : Cuts → (epoch : Option (List ℕ)) (number : ℕ) → IsEpoch epoch number → IsFront epoch number
+front_again cuts None number h = record {
   number = sym h;
-  parts = λ rest free. cut_free exclamation rest free;
+  parts = λ rest free. (cuts.none exclamation rest).1 free;
   good = λ rest free. refl;
   short = λ rest short. short;
   chars = refl;
 }
-front_again (Some digits) number h =
+front_again cuts (Some digits) number h =
     let all = all_digits digits (digits_are_all digits h.0.0) in
     let chars = all_as is_ascii_digit is_part_char digit_part digits all in
     let regroup = λ (rest : List ℕ). append_assoc digits (exclamation ∷ []) rest in
     record {
       number = sym h.1;
-      parts = λ rest free. ap (cut_first exclamation) (regroup rest) ∙ cut_again exclamation digits rest (part_free exclamation no_exclamation digits chars);
+      parts = λ rest free. ap (cut_first exclamation) (regroup rest) ∙ (cuts.first exclamation (digits ++ exclamation ∷ rest) digits rest).1 (refl, part_free exclamation no_exclamation digits chars);
       good = λ rest free.
           ap (λ k. cond k (mark_from exclamation (length digits + 1) rest) (Some (length digits))) h.0.0 ∙ mark_free exclamation (length digits + 1) rest free;
       short = λ rest short. subst HasShortRuns (sym (regroup rest)) (short_before digits exclamation rest refl (short_numeral digits h.0) short);
@@ -436,10 +426,10 @@ record IsBack (local : Option (List ℕ)) (components : List (List Run)) : Type 
   chars : list_all is_plain (local_text local) ≡ true
   ends : (main : List ℕ) → ends_with dot main ≡ false → ends_with dot (main ++ local_text local) ≡ false
 
-back_again : (local : Option (List ℕ)) (components : List (List Run)) → IsLocal local components → IsBack local components
-back_again None components h = record {
+back_again : Cuts → (local : Option (List ℕ)) (components : List (List Run)) → IsLocal local components → IsBack local components
+back_again cuts None components h = record {
   value = sym h;
-  parts = λ main free. ap (cut_first plus) (append-nil main) ∙ cut_free plus main free;
+  parts = λ main free. ap (cut_first plus) (append-nil main) ∙ (cuts.none plus main).1 free;
   good = λ main start some. refl;
   none = λ text. refl;
   free = tt;
@@ -447,12 +437,12 @@ back_again None components h = record {
   chars = refl;
   ends = λ main h. ap (ends_with dot) (append-nil main) ∙ h;
 }
-back_again (Some part) components h =
+back_again cuts (Some part) components h =
     let dotted = part_again (map as_dot part) components h in
     let chars : list_all is_part_char part ≡ true = sym (dots_chars part) ∙ dotted.chars in
     record {
       value = dotted.value;
-      parts = λ main free. cut_again plus main part free;
+      parts = λ main free. (cuts.first plus (main ++ plus ∷ part) main part).1 (refl, free);
       good = λ main start some.
           ap (λ k. cond k (Some start) (mark_from plus (start + length main + 1) part)) some
           ∙ mark_free plus (start + length main + 1) part (part_free plus no_plus part chars);
@@ -484,14 +474,14 @@ no_fault text sound some =
 same_meaning : (v w : Meaning) → v.epoch ≡ w.epoch → v.main ≡ w.main → v.local ≡ w.local → v ≡ w
 same_meaning v w e m l = λ i. record { epoch = e i; main = m i; local = l i }
 
-pub version_again : (text : List ℕ) (version : Meaning) → IsVersion text version → IsRead text version
-version_again text version v =
+pub version_again : Cuts → (text : List ℕ) (version : Meaning) → IsVersion text version → IsRead text version
+version_again cuts text version v =
     let main : List ℕ = v.main in
     let rest : List ℕ = main ++ local_text v.local in
     let whole : List ℕ = epoch_text v.epoch ++ rest in
     let dotted = part_again (main_dots main) version.main v.main_means in
-    let front = front_again v.epoch version.epoch v.epoch_means in
-    let back = back_again v.local version.local v.local_means in
+    let front = front_again cuts v.epoch version.epoch v.epoch_means in
+    let back = back_again cuts v.local version.local v.local_means in
     let chars : list_all is_part_char main ≡ true = sym (main_chars main) ∙ dotted.chars in
     let free : IsFreeOf exclamation rest = free_both exclamation main (local_text v.local) (part_free exclamation no_exclamation main chars) back.free in
     let first : cut_first exclamation whole ≡ option_map (λ digits. (digits, rest)) v.epoch = front.parts rest free in
@@ -535,16 +525,16 @@ ends_mapped f same [] = refl
 ends_mapped f same (x ∷ []) = same x
 ends_mapped f same (x ∷ y ∷ xs) = ends_step dot (f x) (f y) (map f xs) ∙ ends_mapped f same (y ∷ xs) ∙ sym (ends_step dot x y xs)
 
-pub version_end : (text : List ℕ) → offence text ≡ None → ends_with dot text ≡ false
-version_end text h = sym (by_dash (holds dash text && not (holds underscore text))) ∙ (version_again (plain text) (meaning text) (version_sound (plain text) h)).ends
+pub version_end : Cuts → (text : List ℕ) → offence text ≡ None → ends_with dot text ≡ false
+version_end cuts text h = sym (by_dash (holds dash text && not (holds underscore text))) ∙ (version_again cuts (plain text) (meaning text) (version_sound cuts (plain text) h)).ends
   where
     by_dash : (k : Bool) → ends_with dot (if k then map (λ b. underscored (to_ascii_lowercase b)) text else map to_ascii_lowercase text) ≡ ends_with dot text
     by_dash true = ends_mapped (λ b. underscored (to_ascii_lowercase b)) dot_of_dash text
     by_dash false = ends_mapped to_ascii_lowercase dot_of_small text
 
 -- what two texts of the grammar mean decides
-pub order_means : (x y : List ℕ) (v w : Meaning) → IsVersionText x v → IsVersionText y w → version_cmp x y ≡ meaning_cmp v w
-order_means x y v w h k = ap (λ a. meaning_cmp a (meaning y)) (version_again (plain x) v h).value ∙ ap (meaning_cmp v) (version_again (plain y) w k).value
+pub order_means : Cuts → (x y : List ℕ) (v w : Meaning) → IsVersionText x v → IsVersionText y w → version_cmp x y ≡ meaning_cmp v w
+order_means cuts x y v w h k = ap (λ a. meaning_cmp a (meaning y)) (version_again cuts (plain x) v h).value ∙ ap (meaning_cmp v) (version_again cuts (plain y) w k).value
 
-pub starts_means : (x y : List ℕ) (v w : Meaning) → IsVersionText x v → IsVersionText y w → version_starts x y ≡ meaning_starts v w
-starts_means x y v w h k = ap (λ a. meaning_starts a (meaning y)) (version_again (plain x) v h).value ∙ ap (meaning_starts v) (version_again (plain y) w k).value
+pub starts_means : Cuts → (x y : List ℕ) (v w : Meaning) → IsVersionText x v → IsVersionText y w → version_starts x y ≡ meaning_starts v w
+starts_means cuts x y v w h k = ap (λ a. meaning_starts a (meaning y)) (version_again cuts (plain x) v h).value ∙ ap (meaning_starts v) (version_again cuts (plain y) w k).value

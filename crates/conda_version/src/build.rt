@@ -16,7 +16,7 @@ use crate::shape::{
     empty_from, epoch_part, local_dots, local_part, main_dots, main_part, main_start, marks_fault,
     numeral_fault, position,
 };
-use conda_base::Bytes;
+use conda_base::{Bytes, cut_laws};
 use std::alloc::{AllocError, Global};
 
 fn number_of(digits: &[u8]) -> u128
@@ -111,6 +111,7 @@ fn epoch_of(text: &[u8]) -> u128
     requires short { HasShortRuns text.now }
     ensures { result ≡ epoch_of text.now }
 {
+    cut_laws();
     match epoch_part(text) {
         Some(digits) => number_of(digits),
         None => 0,
@@ -172,6 +173,7 @@ fn built(alloc: Global, text: &[u8], dotted: &Dotted) -> Result<Parts, AllocErro
     ensures main { IfOk result (λ parts. parts.main ≡ numbered (plain_meaning text.now)) }
     ensures local { IfOk result (λ parts. parts.local ≡ (plain_meaning text.now).local) }
 {
+    cut_laws();
     let mut runs = Vec::new(alloc);
     runs.push(Run::Number(epoch_of(text)))?;
     let mut main = Components::new(alloc);

@@ -8,6 +8,7 @@ ghost use Rattle.conda_version.specs.Grammar.{behind_epoch, char_fault, empty_fr
 ghost use Rattle.conda_version.specs.Versions.{as_dot, main_dots};
 
 use crate::error::VersionWhy;
+use conda_base::cut_laws;
 use std::alloc::{AllocError, Global};
 
 fn is_plain(b: u8) -> bool
@@ -51,6 +52,7 @@ fn cut_first(bytes: &[u8], mark: u8) -> Option<(&[u8], &[u8])>
     ensures halves { option_map (λ halves. (halves.0.now, halves.1.now)) result ≡ cut_first mark bytes.now }
     ensures len { IfSome result (λ halves. length halves.0.now + length halves.1.now < length bytes.now) }
 {
+    cut_laws();
     let at = position(bytes, mark)?;
     let (front, rest) = bytes.split_at(at);
     Some((front, rest.split_at(1).1))

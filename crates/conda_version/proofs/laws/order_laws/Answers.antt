@@ -1,3 +1,4 @@
+use Rattle.conda_version.proofs.CutLemmas.{cuts}
 use Rattle.std.proofs.lemmas.Cmp.{tied_itself}
 use Rattle.conda_version.proofs.OrderLemmas.{version_total, version_transitive}
 use Rattle.conda_version.proofs.VersionLemmas.{order_means, starts_means}
@@ -16,7 +17,7 @@ pub returns-clause-equals : goal.returns-clause-equals
 returns-clause-equals c = version_total.congr
 
 pub returns-clause-means : goal.returns-clause-means
-returns-clause-means c = order_means
+returns-clause-means c = order_means (cuts c.cut_laws.ensures.first c.cut_laws.ensures.no_first)
 
 pub returns-clause-starts : goal.returns-clause-starts
-returns-clause-starts c = starts_means
+returns-clause-starts c = starts_means (cuts c.cut_laws.ensures.first c.cut_laws.ensures.no_first)

@@ -1,10 +1,10 @@
 use Rattle.std.proofs.Common.{◌≡◌, ◌+◌, List, ℕ, Some, drop, take, ap, sym, ◌∙◌, drop-drop}
-use Rattle.conda_version.proofs.CutLemmas.{cut_at_place, cut_free, no_place}
+use Rattle.conda_version.proofs.CutLemmas.{cut_at_place, no_place}
 use Rattle.conda_version.proofs.shape.cut_first.Goals as goal
 
 pub returns-in_err-at-clause-halves : goal.returns-in_err-at-clause-halves
 returns-in_err-at-clause-halves c =
-    rw c.from_residual.ensures (sym (cut_free c.args.mark c.args.bytes.now (no_place c.args.mark c.args.bytes.now c.in_err-at.ensures)))
+    rw c.from_residual.ensures (sym ((c.cut_laws.ensures.no_first c.args.mark c.args.bytes.now).1 (no_place c.args.mark c.args.bytes.now c.in_err-at.ensures)))
 
 pub returns-clause-halves : goal.returns-clause-halves
 returns-clause-halves c =
