@@ -7,10 +7,11 @@ use Rattle.std.specs.Prelude.{if◌then◌else◌, ◌==◌, ◌&&◌, ◌||◌,
 use Rattle.std.specs.Cmp.Lexicographic.{pointwise}
 use Rattle.std.specs.List.{AllByRecursion, list_all, slice_index_or}
 use Rattle.std.specs.Option.{option_map, option_map_or}
-use Rattle.conda_base.specs.Signs.{dot, equals, exclamation, greater, less, star, tilde}
+use Rattle.conda_base.specs.Signs.{dot, equals, exclamation, greater, less, space, star, tilde}
 use Rattle.conda_base.specs.Texts.{begins_with, cut_last, ends_with}
 use Rattle.conda_version.specs.declared.error.VersionWhy.{VersionWhy}
 use Rattle.conda_version.specs.Grammar.{offence}
+use Rattle.conda_version.specs.Text.{trimmed}
 use Rattle.conda_clause.specs.declared.test.Sign.{Sign}
 use Rattle.conda_clause.specs.declared.test.Sign.TheVariants.{Above, AtLeast, AtMost, Below, Double, Near, Plain, Single, Unequal}
 use Rattle.conda_clause.specs.declared.test.Test.{Test}
@@ -66,6 +67,15 @@ never_ends p k xs h f = by_end (ends_with k xs) refl
         let both : (list_all p front && (p k && true)) ≡ true = sym (ap (list_all p) (ends_split k xs e) ∙ list_all-append p front (k ∷ [])) ∙ h in
         let at_end = and_left (p k) true (and_right (list_all p front) (p k && true) both) in
         absurd (true≢false (sym at_end ∙ f))
+
+-- characters of versions are no spaces, so nothing is trimmed
+pub chars_bare : ((text : List ℕ) → begins_with space text ≡ false → ends_with space text ≡ false → trimmed text ≡ text) → (v : List ℕ)
+    → list_all is_version_char v ≡ true → trimmed v ≡ v
+chars_bare law v h = law v (no_front v h) (never_ends is_version_char space v h refl)
+  where
+    no_front : (w : List ℕ) → list_all is_version_char w ≡ true → begins_with space w ≡ false
+    no_front [] k = refl
+    no_front (b ∷ bs) k = unlike is_version_char b space (and_left (is_version_char b) (list_all is_version_char bs) k) refl
 
 -- A sign, a version, and how the text ends.
 

@@ -1,7 +1,6 @@
 -- Lemmas on tests and on the characters of versions.
 use Rattle.std.proofs.Common.{◌≡◌, ℕ, ◌<◌, ◌≤◌, Bool, true, false, cond, not, nat_lt, List, [], ◌∷◌, ◌++◌, length, map, reverse, Option, None, Some, Ok, Err, refl, sym, ap, ◌∙◌, arith, get_or, true≢false, zero, suc, lit<}
 use Rattle.std.proofs.lemmas.Bool.Decides.{nat_tests}
-use Rattle.std.proofs.lemmas.List.{reverse-reverse}
 use Rattle.std.proofs.lemmas.List.Folds.{list_all-append, list_all-map}
 use Rattle.std.proofs.lemmas.Str.{IsUtf8-from_ascii}
 use Rattle.std.specs.Prelude.{◌==◌, ◌&&◌, if◌then◌else◌, is_none, drop, option_and_then}
@@ -15,8 +14,7 @@ use Rattle.conda_base.specs.Texts.{ends_with}
 use Rattle.conda_version.specs.declared.error.VersionWhy.{VersionWhy}
 use Rattle.conda_version.specs.declared.error.VersionWhy.TheVariants.{Empty, Char, Epoch, Local, Component, Numeral}
 use Rattle.conda_version.specs.Grammar.{because, char_fault, component_fault, empty_fault, epoch_fault, is_plain, local_fault, marks_fault, numeral_from, offence}
-use Rattle.conda_version.specs.Text.{holds, plain, trimmed, underscored, without_front}
-use Rattle.conda_version.proofs.TextLemmas.{back_stops, front_stops}
+use Rattle.conda_version.specs.Text.{holds, plain, underscored}
 use Rattle.conda_clause.specs.declared.test.Sign.{Sign}
 use Rattle.conda_clause.specs.declared.test.Test.TheVariants.{Any}
 use Rattle.conda_clause.specs.Tests.{is_any, is_version_char, sign_len, sign_of, signed, test_of, test_with, version_text, without_star}
@@ -90,23 +88,6 @@ other_chars v h = by_offence (offence v) (λ e. true≢false (sym (version_chars
     by_offence : (o : Option (ℕ × VersionWhy)) → (o ≡ None → ⊥) → (if is_none o then Some v else None) ≡ None
     by_offence None k = absurd (k refl)
     by_offence (Some at) k = refl
-
--- such characters are no spaces
-pub chars_bare : (v : List ℕ) → list_all is_version_char v ≡ true → trimmed v ≡ v
-chars_bare v h =
-    let front : without_front v ≡ v = front_stops v (λ rest e. no_space rest (sym (ap (list_all is_version_char) e) ∙ h)) in
-    let back : without_front (reverse v) ≡ reverse v = back_stops v (λ rest e. no_end rest (sym (ap (list_all is_version_char) e) ∙ h)) in
-    ap (λ t. reverse (without_front (reverse t))) front ∙ ap reverse back ∙ reverse-reverse v
-  where
-    no_space : (rest : List ℕ) → list_all is_version_char (32 ∷ rest) ≡ true → ⊥
-    no_space rest k = true≢false (sym k)
-
-    right : (a : Bool) → (a && false) ≡ true → ⊥
-    right true k = true≢false (sym k)
-    right false k = true≢false (sym k)
-
-    no_end : (rest : List ℕ) → list_all is_version_char (rest ++ 32 ∷ []) ≡ true → ⊥
-    no_end rest k = right (list_all is_version_char rest) (sym (list_all-append is_version_char rest (32 ∷ [])) ∙ k)
 
 char_small : (b : ℕ) → is_version_char b ≡ true → b < 128
 char_small b h = grind (arith, nat_tests)

@@ -4,7 +4,7 @@ ghost use Rattle.conda_base.specs.Texts.{ends_with};
 ghost use Rattle.conda_clause.specs.Tests.{is_any, is_equal_sign, is_version_char, shortened, sign_len, sign_of, signed, test_holds, test_of, test_with, version_text, without_last_part, without_star};
 
 use conda_base::cut_last;
-use conda_version::{Version, VersionErr};
+use conda_version::{Version, VersionErr, trimmed_law};
 use std::alloc::{AllocError, Global};
 
 /// The sign in front of a test.
@@ -154,6 +154,7 @@ fn has_version_chars(text: &[u8]) -> bool
 fn version_of(alloc: Global, text: &[u8]) -> Result<Option<Version>, AllocError>
     ensures { IfOk result (λ v. v ≡ version_text text.now) }
 {
+    trimmed_law();
     if !has_version_chars(text) {
         return Ok(None);
     }
