@@ -1,11 +1,10 @@
 -- The table of tests and what is read: each text of the table is read as its test, and nothing else is read.
-use Rattle.std.proofs.Common.{◌≡◌, ℕ, zero, suc, ◌+◌, ◌-◌, ◌<◌, Bool, true, false, not, nat_eq, List, [], ◌∷◌, ◌++◌, length, take, drop, codes, Option, None, Some, refl, sym, ap, subst, ◌∙◌, ◌⊎◌, inl, inr, lit<, arith, true≢false, append_assoc, append-nil, length-append}
-use Rattle.std.proofs.lemmas.Bool.Decides.{nat_tests}
+use Rattle.std.proofs.Common.{◌≡◌, ℕ, zero, suc, ◌-◌, ◌<◌, Bool, true, false, nat_eq, List, [], ◌∷◌, ◌++◌, length, take, drop, codes, Option, None, Some, refl, sym, ap, subst, ◌∙◌, lit<, arith, true≢false, append_assoc, length-append}
 use Rattle.std.proofs.lemmas.List.{take_at}
 use Rattle.std.proofs.lemmas.List.Folds.{list_all-append}
 use Rattle.std.specs.Prelude.{if◌then◌else◌, ◌==◌, ◌&&◌, ◌||◌, Contains, is_none, option_and_then, slice_get}
 use Rattle.std.specs.Cmp.Lexicographic.{pointwise}
-use Rattle.std.specs.List.{AllByRecursion, list_all, slice_index_or}
+use Rattle.std.specs.List.{AllByRecursion, list_all}
 use Rattle.std.specs.Option.{option_map, option_map_or}
 use Rattle.conda_base.specs.Signs.{dot, equals, exclamation, greater, less, space, star, tilde}
 use Rattle.conda_base.specs.Texts.{begins_with, cut_last, ends_with}
@@ -16,7 +15,7 @@ use Rattle.conda_clause.specs.declared.test.Sign.{Sign}
 use Rattle.conda_clause.specs.declared.test.Sign.TheVariants.{Above, AtLeast, AtMost, Below, Double, Near, Plain, Single, Unequal}
 use Rattle.conda_clause.specs.declared.test.Test.{Test}
 use Rattle.conda_clause.specs.declared.test.Test.TheVariants.{Any, Is, IsAbove, IsAtLeast, IsAtMost, IsBelow, IsNear, IsNot, Starts, StartsNot}
-use Rattle.conda_clause.specs.Tests.{HasVersions, IsFaultless, IsTest, is_any, is_equal_sign, is_version_char, shortened, sign_len, sign_of, signed, test_of, test_texts, test_with, version_text, without_last_part, without_star}
+use Rattle.conda_clause.specs.Tests.{IsFaultless, IsTest, is_any, is_equal_sign, is_version_char, shortened, sign_len, sign_of, signed, test_of, test_texts, test_with, version_text, without_star}
 use Rattle.conda_clause.proofs.TestLemmas.{all_more, and_both, and_left, and_right, NoDotEnd, test_equal, test_found, unlike, version_chars, version_is}
 
 -- Characters of tests.

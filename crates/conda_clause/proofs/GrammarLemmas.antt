@@ -2,7 +2,7 @@
 use Rattle.std.proofs.Common.{◌≡◌, ℕ, zero, suc, ◌+◌, ◌-◌, ◌<◌, ◌≤◌, Bool, true, false, nat_lt, List, [], ◌∷◌, ◌++◌, length, Option, None, Some, Result, Ok, Err, refl, sym, ap, subst, ◌∙◌, arith, append_assoc, append-nil, true≢false}
 use Rattle.std.proofs.lemmas.Bool.Decides.{nat_tests}
 use Rattle.std.proofs.Math.Nat.{max-le}
-use Rattle.std.specs.Prelude.{if◌then◌else◌, ◌==◌, ◌&&◌, is_some, max}
+use Rattle.std.specs.Prelude.{if◌then◌else◌, ◌==◌, ◌&&◌, is_some}
 use Rattle.std.specs.List.{cons_option, filter_map, list_all}
 use Rattle.conda_base.specs.Signs.{close_paren, open_paren}
 use Rattle.conda_clause.specs.declared.error.SpecWhy.{SpecWhy}
@@ -15,7 +15,7 @@ use Rattle.conda_clause.specs.declared.token.Token.TheVariants.{And, Close, Open
 use Rattle.conda_clause.specs.Clause.{after, clause_fault, closers, fault_from, lesser, step, unclosed}
 use Rattle.conda_clause.specs.Pieces.{pieces, token_of, tokens}
 use Rattle.conda_clause.specs.Tree.{IsClause, Rank, Tree, nesting}
-use Rattle.conda_clause.specs.Tree.Rank.{and, atom, or}
+use Rattle.conda_clause.specs.Tree.Rank.{atom, or}
 use Rattle.conda_clause.specs.Tree.Tree.{both, either, parens, part, single, test}
 use Rattle.conda_clause.proofs.FaultLemmas.{is_token, left_none, tokens_all}
 use Rattle.conda_clause.proofs.PieceLemmas.{free}

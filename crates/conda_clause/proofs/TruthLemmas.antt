@@ -4,7 +4,6 @@ use Rattle.std.proofs.lemmas.Bool.Decides.{nat_tests}
 use Rattle.std.specs.Prelude.{if◌then◌else◌, ◌==◌, ◌&&◌, ◌||◌}
 use Rattle.conda_clause.specs.declared.token.Token.{Token}
 use Rattle.conda_clause.specs.declared.token.Token.TheVariants as token
-use Rattle.conda_clause.specs.declared.truth.Pass.{Pass}
 use Rattle.conda_clause.specs.declared.truth.Pass.TheVariants.{Over, Read}
 use Rattle.conda_base.specs.Signs.{bar, comma}
 use Rattle.conda_clause.specs.Tree.{Rank, Tree, Writes, tree_holds}

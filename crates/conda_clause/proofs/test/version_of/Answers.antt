@@ -1,4 +1,4 @@
-use Rattle.std.proofs.Common.{◌≡◌, ℕ, ap, sym, ◌∙◌, None, Some}
+use Rattle.std.proofs.Common.{◌≡◌, ℕ, ap, sym, ◌∙◌, Some}
 use Rattle.conda_version.specs.declared.error.VersionWhy.{VersionWhy}
 use Rattle.conda_version.specs.Grammar.{offence}
 use Rattle.conda_version.specs.Text.{trimmed}
