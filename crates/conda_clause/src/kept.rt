@@ -1,12 +1,11 @@
-ghost use Rattle.std.specs.Prelude.{◌≡◌, ◌++◌, ◌+◌, ◌^◌, ◌<◌, ◌≤◌, ℕ, IfErr, IfOk, OnOk, length, map, string_bytes};
-ghost use Rattle.conda_clause.specs.Faults.{place_of};
+ghost use Rattle.std.specs.Prelude.{◌≡◌, ◌++◌, ◌+◌, ◌^◌, ◌<◌, IfOk, OnOk, length, map, string_bytes};
 ghost use Rattle.conda_clause.specs.Kept.{drops_behind, has_gap, is_joint, kept, last_of, marks_at, places, run_marks};
 
-use crate::error::SpecErr;
 use conda_base::Text;
 use std::alloc::{AllocError, Global};
 
-/// The runs of characters of a text that are no spaces, with one space between them where it isn't dropped.
+/// The runs of characters of a text that are no spaces, with one space between them where it isn't
+/// dropped.
 #[derive(Debug, Drop)]
 pub struct Kept {
     pub text: Text,
@@ -48,7 +47,8 @@ fn last_of(last: Option<u8>, run: &[u8]) -> Option<u8>
 
 fn add_places(places: &mut Vec<usize>, at: usize, run: &[u8]) -> Result<(), AllocError>
     requires { at + length run.now < 2 ^ 64 }
-    ensures { OnOk result (places.new.items ≡ places.old.items ++ map (λ m. m.0) (marks_at at run.now)) }
+    ensures { OnOk result
+        (places.new.items ≡ places.old.items ++ map (λ m. m.0) (marks_at at run.now)) }
 {
     for i in 0..run.len() {
         places.push(at + i)?;
@@ -65,8 +65,11 @@ fn add_run(
     run: &str,
 ) -> Result<(), AllocError>
     requires { at + length run.now < 2 ^ 64 }
-    ensures text { OnOk result (string_bytes text.new ≡ string_bytes text.old ++ map (λ m. m.1) (run_marks last at run.now)) }
-    ensures places { OnOk result (places.new.items ≡ places.old.items ++ map (λ m. m.0) (run_marks last at run.now)) }
+    ensures text { OnOk result
+        (string_bytes text.new
+        ≡ string_bytes text.old ++ map (λ m. m.1) (run_marks last at run.now)) }
+    ensures places { OnOk result
+        (places.new.items ≡ places.old.items ++ map (λ m. m.0) (run_marks last at run.now)) }
 {
     let Some(first) = run.as_bytes().first() else {
         return Ok(());
@@ -79,13 +82,11 @@ fn add_run(
     add_places(places, at, run.as_bytes())
 }
 
-/// Drops the spaces at the ends, those before and behind `,` and `|`, and those behind `<`, `>` and `=`. What other spaces
-/// stand between two runs becomes one space.
-pub fn keep(alloc: Global, text: &str) -> Result<Kept, SpecErr>
+/// Drops the spaces at the ends, those before and behind `,` and `|`, and those behind `<`, `>` and
+/// `=`. What other spaces stand between two runs becomes one space.
+pub fn keep(alloc: Global, text: &str) -> Result<Kept, AllocError>
     ensures text { IfOk result (λ k. k.text ≡ kept text.now) }
     ensures places { IfOk result (λ k. k.places.items ≡ places text.now) }
-    ensures inside { OnOk result ((i : ℕ) → place_of text.now i ≤ length text.now) }
-    ensures bad { IfErr result (λ e. e ≡ SpecErr.Memory) }
 {
     let mut made = String::new(alloc);
     let mut places = Vec::new(alloc);

@@ -1,9 +1,10 @@
-ghost use Rattle.std.specs.Prelude.{◌≡◌, ◌≤◌, ◌<◌, IfOk, IfSome, false, length, true};
+ghost use Rattle.std.specs.Prelude.{◌≡◌, ◌≤◌, ◌<◌, IfOk, false, length, true};
 ghost use Rattle.std.specs.List.{list_all};
-ghost use Rattle.conda_clause.specs.Tests.{ends_with, is_any, is_equal_sign, is_version_char, last_dot, shortened, sign_len, sign_of, signed, test_holds, test_of, test_with, version_text, without_last_part, without_star};
+ghost use Rattle.conda_base.specs.Texts.{ends_with};
+ghost use Rattle.conda_clause.specs.Tests.{is_any, is_equal_sign, is_version_char, shortened, sign_len, sign_of, signed, test_holds, test_of, test_with, version_text, without_last_part, without_star};
 
-use conda_base::Copied;
-use conda_version::{Version, VersionErr};
+use conda_base::cut_last;
+use conda_version::{Version, VersionErr, trimmed_law};
 use std::alloc::{AllocError, Global};
 
 /// The sign in front of a test.
@@ -30,7 +31,7 @@ pub enum Sign {
 }
 
 /// A test of a version.
-#[derive(Debug, Drop)]
+#[derive(Clone, Debug, Drop)]
 pub enum Test {
     /// Any version.
     Any,
@@ -62,23 +63,6 @@ impl Test {
             Test::StartsNot(v) => !version.starts_with(v),
             Test::IsNear(v, front) => version.compare(v).is_ge() && version.starts_with(front),
         }
-    }
-}
-
-impl Copied for Test {
-    fn copied(&self, alloc: Global) -> Result<Test, AllocError> {
-        Ok(match self {
-            Test::Any => Test::Any,
-            Test::Is(v) => Test::Is(v.copy(alloc)?),
-            Test::IsNot(v) => Test::IsNot(v.copy(alloc)?),
-            Test::IsBelow(v) => Test::IsBelow(v.copy(alloc)?),
-            Test::IsAtMost(v) => Test::IsAtMost(v.copy(alloc)?),
-            Test::IsAbove(v) => Test::IsAbove(v.copy(alloc)?),
-            Test::IsAtLeast(v) => Test::IsAtLeast(v.copy(alloc)?),
-            Test::Starts(v) => Test::Starts(v.copy(alloc)?),
-            Test::StartsNot(v) => Test::StartsNot(v.copy(alloc)?),
-            Test::IsNear(v, front) => Test::IsNear(v.copy(alloc)?, front.copy(alloc)?),
-        })
     }
 }
 
@@ -170,6 +154,7 @@ fn has_version_chars(text: &[u8]) -> bool
 fn version_of(alloc: Global, text: &[u8]) -> Result<Option<Version>, AllocError>
     ensures { IfOk result (λ v. v ≡ version_text text.now) }
 {
+    trimmed_law();
     if !has_version_chars(text) {
         return Ok(None);
     }
@@ -183,26 +168,11 @@ fn version_of(alloc: Global, text: &[u8]) -> Result<Option<Version>, AllocError>
     }
 }
 
-// The place of the last `.`.
-fn last_dot(text: &[u8]) -> Option<usize>
-    ensures dot { result ≡ last_dot 0 text.now }
-    ensures inside { IfSome result (λ at. at < length text.now) }
-{
-    let mut found = None;
-    for (at, b) in text.iter().enumerate() {
-        if *b == b'.' {
-            found = Some(at);
-        }
-    }
-    found
-}
-
 fn without_last_part(alloc: Global, version: &Version) -> Result<Option<Version>, AllocError>
     ensures { IfOk result (λ v. v ≡ without_last_part version.now) }
 {
-    let text = version.text().as_bytes();
-    match last_dot(text) {
-        Some(at) => version_of(alloc, &text[..at]),
+    match cut_last(version.text(), b'.') {
+        Some((front, _)) => version_of(alloc, front.as_bytes()),
         None => Ok(None),
     }
 }
