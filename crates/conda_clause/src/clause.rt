@@ -1,10 +1,9 @@
 ghost use Rattle.std.specs.Prelude.{◌≡◌, ◌++◌, IfErr, IfOk, None, OnOk, codes, map, slice_get, unwrap_or};
 ghost use Rattle.std.specs.Char.{to_ascii_lowercase};
-ghost use Rattle.conda_version.specs.Text.{trimmed};
 ghost use Rattle.conda_clause.specs.Clause.{beside_build, clause_fault, is_single, starred};
 ghost use Rattle.conda_clause.specs.Pieces as pieces;
-ghost use Rattle.conda_clause.specs.Kept.{clause_text};
-ghost use Rattle.conda_clause.specs.Faults.{IsCause, placed};
+ghost use Rattle.conda_base.specs.Reads.{Gives};
+ghost use Rattle.conda_clause.specs.Faults.{clause_read, kept_read, spec_fault_of};
 ghost use Rattle.conda_clause.specs.Truth.{clause_holds};
 
 use crate::error::SpecErr;
@@ -13,17 +12,17 @@ use crate::reading::read_tokens;
 use crate::test::{Sign, Test, sign_of};
 use crate::token::Token;
 use crate::truth::tokens_true;
-use conda_base::{Copied, Text, copied_all};
+use conda_base::{Copied, Rows, Text};
 use conda_version::{Version, trimmed};
 use std::alloc::{AllocError, Global};
 use std::marker::Model;
 
 /// A version clause: tests joined by `,` (and) and `|` (or), with parentheses. Contracts see it as its text, in lower case and
 /// without the spaces that are dropped.
-#[derive(Debug, Drop)]
+#[derive(Clone, Debug, Drop)]
 pub struct VersionClause {
     text: Text,
-    tokens: Vec<Token>,
+    tokens: Rows<Token>,
 }
 
 impl Model for VersionClause {
@@ -36,15 +35,15 @@ impl Model for VersionClause {
 
     ghost view = { λ c. c.text };
 
-    ghost invariant = { λ c. (clause_fault c.text ≡ None) × (map to_ascii_lowercase c.text ≡ c.text) × (c.tokens.items ≡ pieces.tokens c.text) };
+    ghost inverse = { λ text. record { text = text; tokens = pieces.tokens text } };
+
+    ghost invariant = { λ c. (clause_fault c.text ≡ None) × (map to_ascii_lowercase c.text ≡ c.text) × (c.tokens ≡ pieces.tokens c.text) };
 }
 
 impl VersionClause {
     /// Reads a version clause. Spaces at both ends are dropped, and places speak of the text without these.
     pub fn read(alloc: Global, text: &str) -> Result<VersionClause, SpecErr>
-        ensures value { IfOk result (λ c. c ≡ clause_text (trimmed text.now)) }
-        ensures good { OnOk result (clause_fault (clause_text (trimmed text.now)) ≡ None) }
-        ensures bad { IfErr result (λ e. IsCause e (placed (trimmed text.now) (clause_fault (clause_text (trimmed text.now))))) }
+        ensures { Gives spec_fault_of result (clause_read text.now) }
     {
         let text = trimmed(text);
         let kept = keep(alloc, text)?;
@@ -60,27 +59,30 @@ impl VersionClause {
 
     /// Reads a version clause from characters of which no space is to be dropped. Places speak of these.
     pub fn of_kept(alloc: Global, kept: &str) -> Result<VersionClause, SpecErr>
-        ensures value { IfOk result (λ c. c ≡ map to_ascii_lowercase kept.now) }
-        ensures good { OnOk result (clause_fault (map to_ascii_lowercase kept.now) ≡ None) }
-        ensures bad { IfErr result (λ e. IsCause e (clause_fault (map to_ascii_lowercase kept.now))) }
+        ensures { Gives spec_fault_of result (kept_read kept.now) }
     {
         let text = Text::from_string(kept.to_ascii_lowercase(alloc)?);
         let mut tokens = Vec::new(alloc);
         match read_tokens(alloc, text.as_str().as_bytes(), &mut tokens)? {
-            None => Ok(VersionClause { text, tokens }),
+            None => Ok(VersionClause {
+                text,
+                tokens: Rows::from_vec(tokens),
+            }),
             Some((at, why)) => Err(SpecErr::BadSpec { at, why }),
         }
     }
 
     /// The clause `*`, which holds for every version.
     pub fn any(alloc: Global) -> Result<VersionClause, AllocError>
-        ensures value { IfOk result (λ c. c ≡ codes "*") }
-        ensures good { OnOk result (clause_fault (codes "*") ≡ None) }
+        ensures { IfOk result (λ c. c ≡ codes "*") }
     {
         let text = Text::from_str(alloc, "*")?;
         let mut tokens = Vec::new(alloc);
         tokens.push(Token::Test(Test::Any))?;
-        Ok(VersionClause { text, tokens })
+        Ok(VersionClause {
+            text,
+            tokens: Rows::from_vec(tokens),
+        })
     }
 
     /// Whether it holds for a version. It takes no memory.
@@ -98,7 +100,7 @@ impl VersionClause {
         ensures lowered { IfOk result (λ c. map to_ascii_lowercase c ≡ c) }
     {
         let text = beside_text(alloc, &self.text, self.tokens.as_slice())?;
-        let tokens = copied_all(alloc, self.tokens.as_slice())?;
+        let tokens = self.tokens.copy()?;
         Ok(VersionClause { text, tokens })
     }
 
@@ -110,20 +112,11 @@ impl VersionClause {
     {
         self.text.as_str()
     }
-
-    /// An equal clause.
-    pub fn copy(&self, alloc: Global) -> Result<VersionClause, AllocError>
-        ensures { IfOk result (λ c. c ≡ self.now) }
-    {
-        let text = self.text.copy(alloc)?;
-        let tokens = copied_all(alloc, self.tokens.as_slice())?;
-        Ok(VersionClause { text, tokens })
-    }
 }
 
 impl Copied for VersionClause {
-    fn copied(&self, alloc: Global) -> Result<VersionClause, AllocError> {
-        self.copy(alloc)
+    fn copy(&self) -> Result<VersionClause, AllocError> {
+        self.clone()
     }
 }
 
@@ -139,7 +132,7 @@ fn starred(alloc: Global, text: &Text, tokens: &[Token]) -> Result<Text, AllocEr
     match tokens {
         [Token::Test(Test::Starts(v))] => with_star(alloc, v),
         [Token::Test(Test::Any)] => Text::from_str(alloc, "*"),
-        _ => text.copy(alloc),
+        _ => text.copy(),
     }
 }
 
@@ -159,7 +152,7 @@ fn beside_text(alloc: Global, text: &Text, tokens: &[Token]) -> Result<Text, All
     if is_single(sign_of(text.as_str().as_bytes())) {
         starred(alloc, text, tokens)
     } else {
-        text.copy(alloc)
+        text.copy()
     }
 }
 

@@ -1,8 +1,6 @@
-ghost use Rattle.std.specs.Prelude.{◌≡◌, ◌++◌, ◌+◌, ◌^◌, ◌<◌, ◌≤◌, ℕ, IfErr, IfOk, OnOk, length, map, string_bytes};
-ghost use Rattle.conda_clause.specs.Faults.{place_of};
+ghost use Rattle.std.specs.Prelude.{◌≡◌, ◌++◌, ◌+◌, ◌^◌, ◌<◌, IfOk, OnOk, length, map, string_bytes};
 ghost use Rattle.conda_clause.specs.Kept.{drops_behind, has_gap, is_joint, kept, last_of, marks_at, places, run_marks};
 
-use crate::error::SpecErr;
 use conda_base::Text;
 use std::alloc::{AllocError, Global};
 
@@ -81,11 +79,9 @@ fn add_run(
 
 /// Drops the spaces at the ends, those before and behind `,` and `|`, and those behind `<`, `>` and `=`. What other spaces
 /// stand between two runs becomes one space.
-pub fn keep(alloc: Global, text: &str) -> Result<Kept, SpecErr>
+pub fn keep(alloc: Global, text: &str) -> Result<Kept, AllocError>
     ensures text { IfOk result (λ k. k.text ≡ kept text.now) }
     ensures places { IfOk result (λ k. k.places.items ≡ places text.now) }
-    ensures inside { OnOk result ((i : ℕ) → place_of text.now i ≤ length text.now) }
-    ensures bad { IfErr result (λ e. e ≡ SpecErr.Memory) }
 {
     let mut made = String::new(alloc);
     let mut places = Vec::new(alloc);

@@ -16,6 +16,3 @@ pub use error::{SpecErr, SpecWhy};
 pub use kept::{Kept, keep};
 pub use laws::{clause_laws, grammar_laws, kept_laws};
 pub use star::{glob, glob_lowered};
-
-#[cfg(test)]
-mod tests;

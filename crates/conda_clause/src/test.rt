@@ -2,7 +2,6 @@ ghost use Rattle.std.specs.Prelude.{◌≡◌, ◌≤◌, ◌<◌, IfOk, IfSome,
 ghost use Rattle.std.specs.List.{list_all};
 ghost use Rattle.conda_clause.specs.Tests.{ends_with, is_any, is_equal_sign, is_version_char, last_dot, shortened, sign_len, sign_of, signed, test_holds, test_of, test_with, version_text, without_last_part, without_star};
 
-use conda_base::Copied;
 use conda_version::{Version, VersionErr};
 use std::alloc::{AllocError, Global};
 
@@ -30,7 +29,7 @@ pub enum Sign {
 }
 
 /// A test of a version.
-#[derive(Debug, Drop)]
+#[derive(Clone, Debug, Drop)]
 pub enum Test {
     /// Any version.
     Any,
@@ -62,23 +61,6 @@ impl Test {
             Test::StartsNot(v) => !version.starts_with(v),
             Test::IsNear(v, front) => version.compare(v).is_ge() && version.starts_with(front),
         }
-    }
-}
-
-impl Copied for Test {
-    fn copied(&self, alloc: Global) -> Result<Test, AllocError> {
-        Ok(match self {
-            Test::Any => Test::Any,
-            Test::Is(v) => Test::Is(v.copy(alloc)?),
-            Test::IsNot(v) => Test::IsNot(v.copy(alloc)?),
-            Test::IsBelow(v) => Test::IsBelow(v.copy(alloc)?),
-            Test::IsAtMost(v) => Test::IsAtMost(v.copy(alloc)?),
-            Test::IsAbove(v) => Test::IsAbove(v.copy(alloc)?),
-            Test::IsAtLeast(v) => Test::IsAtLeast(v.copy(alloc)?),
-            Test::Starts(v) => Test::Starts(v.copy(alloc)?),
-            Test::StartsNot(v) => Test::StartsNot(v.copy(alloc)?),
-            Test::IsNear(v, front) => Test::IsNear(v.copy(alloc)?, front.copy(alloc)?),
-        })
     }
 }
 

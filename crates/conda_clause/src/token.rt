@@ -7,7 +7,7 @@ use conda_base::Copied;
 use std::alloc::{AllocError, Global};
 
 /// A token of a version clause.
-#[derive(Debug, Drop)]
+#[derive(Clone, Debug, Drop)]
 pub enum Token {
     Open,
     Close,
@@ -50,14 +50,8 @@ impl Token {
 }
 
 impl Copied for Token {
-    fn copied(&self, alloc: Global) -> Result<Token, AllocError> {
-        Ok(match self {
-            Token::Open => Token::Open,
-            Token::Close => Token::Close,
-            Token::And => Token::And,
-            Token::Or => Token::Or,
-            Token::Test(test) => Token::Test(test.copied(alloc)?),
-        })
+    fn copy(&self) -> Result<Token, AllocError> {
+        self.clone()
     }
 }
 

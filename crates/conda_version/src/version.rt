@@ -15,7 +15,7 @@ use std::cmp::Ordering;
 use std::marker::Model;
 
 /// A version. Contracts see it as its text, which has no spaces at its ends and keeps its case.
-#[derive(Debug, Drop)]
+#[derive(Clone, Debug, Drop)]
 pub struct Version {
     text: Text,
     main: Components,
@@ -30,6 +30,8 @@ impl Model for Version {
     ghost Value = { List ℕ };
 
     ghost view = { λ v. v.text };
+
+    ghost inverse = { λ text. record { text = text; main = main_of (plain text); local = local_of (plain text) } };
 
     ghost invariant = { λ v. (offence v.text ≡ None) × (trimmed v.text ≡ v.text) × (v.main ≡ main_of (plain v.text)) × (v.local ≡ local_of (plain v.text)) };
 }
@@ -86,21 +88,31 @@ impl Version {
     {
         self.text.as_str()
     }
-
-    /// An equal version.
-    pub fn copy(&self, alloc: Global) -> Result<Version, AllocError>
-        ensures { IfOk result (λ v. v ≡ self.now) }
-    {
-        Ok(Version {
-            text: self.text.copy(alloc)?,
-            main: self.main.copy(alloc)?,
-            local: self.local.copy(alloc)?,
-        })
-    }
 }
 
 impl Copied for Version {
-    fn copied(&self, alloc: Global) -> Result<Version, AllocError> {
-        self.copy(alloc)
+    fn copy(&self) -> Result<Version, AllocError> {
+        self.clone()
     }
+}
+
+// Two versions are one value where their texts are one; `compare` finds more versions equal.
+impl PartialEq for Version {
+    ghost use Rattle.std.specs.Prelude.{nat_eq};
+    ghost use Rattle.std.specs.Cmp.{partial_equiv_from_equiv};
+    ghost use Rattle.std.specs.Cmp.Lexicographic.{nat_list_eq_equiv, pointwise};
+
+    ghost eq = { pointwise nat_eq };
+
+    ghost laws = { partial_equiv_from_equiv nat_list_eq_equiv };
+
+    fn eq(&self, other: &Version) -> bool {
+        self.text == other.text
+    }
+}
+
+impl Eq for Version {
+    ghost use Rattle.std.specs.Cmp.Lexicographic.{nat_list_eq_equiv};
+
+    ghost laws = { nat_list_eq_equiv };
 }

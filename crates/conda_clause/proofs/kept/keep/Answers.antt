@@ -2,7 +2,6 @@ use Rattle.std.proofs.Common.{ap, lit<, arith, rules, sym, ◌∙◌, string_byt
 use Rattle.std.proofs.lemmas.Str.Pattern.{split_once_first}
 use Rattle.conda_clause.specs.Kept.{last_of}
 use Rattle.conda_clause.proofs.KeptLemmas.{parts_length, seen_last, seen_step}
-use Rattle.conda_clause.proofs.PlaceLemmas.{place_inside}
 use Rattle.conda_clause.proofs.kept.keep.Goals as goal
 
 pub loop-run-preserved : goal.loop-run-preserved
@@ -33,6 +32,3 @@ returns-clause-places c =
     let none = rw c.in_default.is at found in
     c.in_ok-add_run-2.ensures.places
     ∙ sym (seen_last (λ m. m.0) c.loop-run.places.items c.loop-run.last c.loop-run.at c.loop-run.left.now none) ∙ c.loop-run.invariant.3
-
-pub returns-clause-inside : goal.returns-clause-inside
-returns-clause-inside c = place_inside c.args.text.now

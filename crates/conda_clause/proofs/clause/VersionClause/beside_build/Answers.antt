@@ -21,7 +21,7 @@ invariant_of-result c =
     let beside = is_beside_build c.self.inside.text c.self.invariant.0 c.self.invariant.1 in (
       ap clause_fault c.in_ok-text.ensures ∙ beside.good,
       ap (map to_ascii_lowercase) c.in_ok-text.ensures ∙ beside.lower ∙ sym c.in_ok-text.ensures,
-      c.in_ok-tokens.ensures ∙ c.as_slice-2.ensures.value ∙ c.self.invariant.2 ∙ sym beside.same ∙ ap tokens (sym c.in_ok-text.ensures),
+      c.in_ok-tokens.ensures ∙ c.self.invariant.2 ∙ sym beside.same ∙ ap tokens (sym c.in_ok-text.ensures),
     )
 
 pub returns-clause-lowered : goal.returns-clause-lowered
