@@ -11,8 +11,10 @@ use Rattle.std.specs.List.{list_all, list_any, onto_first}
 use Rattle.conda_version.specs.Grammar.{is_number, number_of}
 use Rattle.conda_spec.specs.declared.given.Given.{Given}
 use Rattle.conda_spec.specs.declared.given.ItemKey.TheVariants as keys
-use Rattle.conda_spec.specs.Cuts.{around_last, without_last}
-use Rattle.conda_spec.specs.Faults.{Read, ◌>>=◌}
+use Rattle.conda_base.specs.Texts.{cut_last}
+use Rattle.conda_spec.specs.Cuts.{without_last}
+use Rattle.conda_base.specs.Reads.{◌>>=◌}
+use Rattle.conda_spec.specs.Reading.{SpecRead}
 use Rattle.conda_spec.specs.Parts.{IsFreeOf, bars_channel}
 use Rattle.conda_spec.specs.Reading.{bars_bare, brackets_of, is_quote, item_key, item_read, items_of, items_read, nothing, put, short_number, value_of, without_quote}
 use Rattle.conda_spec.specs.Text.{brackets_text}
@@ -146,17 +148,17 @@ unfolding inner items_read
 items_give at None None some h k = absurd some
 items_give at (Some n) None some h k =
     ap (items_read nothing at) (one_item (codes "build_number=" ++ decimal n) (number_chars n h))
-    ∙ ap (λ (r : Read Given). r >>= λ given. Ok given) (number_item nothing at n h refl)
+    ∙ ap (λ (r : SpecRead Given). r >>= λ given. Ok given) (number_item nothing at n h refl)
 items_give at None (Some subdir) some h k =
     ap (items_read nothing at) (one_item (codes "subdir=" ++ subdir) (subdir_chars subdir k))
-    ∙ ap (λ (r : Read Given). r >>= λ given. Ok given) (subdir_item nothing at subdir k refl)
+    ∙ ap (λ (r : SpecRead Given). r >>= λ given. Ok given) (subdir_item nothing at subdir k refl)
 items_give at (Some n) (Some subdir) some h k =
     let first : List ℕ = codes "build_number=" ++ decimal n in
     let second : List ℕ = codes "subdir=" ++ subdir in
     let next : ℕ = at + length first + 1 in
     ap (items_read nothing at) (first_item first second (number_chars n h) ∙ ap (λ (items : List (List ℕ)). first ∷ items) (one_item second (subdir_chars subdir k)))
-    ∙ ap (λ (r : Read Given). r >>= λ given. item_read given next second >>= λ given. Ok given) (number_item nothing at n h refl)
-    ∙ ap (λ (r : Read Given). r >>= λ given. Ok given) (subdir_item (record nothing { number = Some n }) next subdir k refl)
+    ∙ ap (λ (r : SpecRead Given). r >>= λ given. item_read given next second >>= λ given. Ok given) (number_item nothing at n h refl)
+    ∙ ap (λ (r : SpecRead Given). r >>= λ given. Ok given) (subdir_item (record nothing { number = Some n }) next subdir k refl)
 
 -- Where the brackets begin and end.
 
@@ -215,7 +217,7 @@ pub brackets_cut : (front : List ℕ) (number : Option ℕ) (subdir : Option (Li
 brackets_cut front number subdir some h k =
     ap (λ t. brackets_of (front ++ t)) (brackets_hold number subdir some)
     ∙ ap brackets_of (sym (append_assoc front (91 ∷ inner number subdir) (93 ∷ [])))
-    ∙ ap (option_and_then (around_last 91)) (last_off 93 (front ++ (91 ∷ inner number subdir)))
+    ∙ ap (option_and_then (cut_last 91)) (last_off 93 (front ++ (91 ∷ inner number subdir)))
     ∙ last_cut_at 91 front (inner number subdir) (not_inner (is_this 91) opening_not_inner number subdir h k)
 
 spaceless : (number : Option ℕ) (subdir : Option (List ℕ)) → HasBrackets number subdir → IfSome number (λ n. n < 18446744073709551616) → IfSome subdir (IsFreeOf bars_channel)

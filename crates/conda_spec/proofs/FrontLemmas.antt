@@ -5,12 +5,15 @@ use Rattle.std.proofs.Math.Seq.{take-append_seam, drop-append_seam}
 use Rattle.std.specs.Prelude.{None, Some, IfSome, Ok, Err, not, Option, codes}
 use Rattle.std.specs.Char.{to_ascii_lowercase}
 use Rattle.std.specs.List.{list_any, position_or_len}
+use Rattle.conda_clause.specs.declared.error.SpecWhy.{SpecWhy}
 use Rattle.conda_clause.specs.declared.error.SpecWhy.TheVariants.{Name}
+use Rattle.std.specs.Option.{option_map}
 use Rattle.conda_clause.specs.Clause.{clause_fault}
 use Rattle.conda_clause.specs.Faults.{place_of}
 use Rattle.conda_clause.specs.Kept.{drops_behind, is_joint, kept, last_of}
 use Rattle.conda_spec.specs.declared.given.Given.{Given}
-use Rattle.conda_spec.specs.Faults.{Read, ◌>>=◌, unless}
+use Rattle.conda_base.specs.Reads.{◌>>=◌, unless}
+use Rattle.conda_spec.specs.Reading.{SpecRead}
 use Rattle.conda_spec.specs.Parts.{IsFreeOf, bars_build, bars_channel, is_name_char, is_one_of}
 use Rattle.conda_spec.specs.Reading.{Wanted, build_at, build_word, channel_at, channel_cut, channel_read, clause_at, ends_name, followed_read, front_cut, front_read, is_equal_word, is_free, last_word, named_read, nothing, spaced_cut, spaced_read, wanted_read, with_wanted, words_cut, words_read}
 use Rattle.conda_spec.specs.Text.{channel_text, word_text}
@@ -56,7 +59,8 @@ build_reads at text h = rw (free_is bars_build text h) refl
 clause_reads : (place : ℕ → ℕ) (clause : List ℕ) → IsClauseWord clause → clause_at place 0 0 clause ≡ Ok clause
 unfolding clause_at
 clause_reads place clause h =
-    ap (λ c. unless (clause_fault c) (λ i. place (0 + (i - 0))) c) h.lowered ∙ ap (λ fault. unless fault (λ i. place (0 + (i - 0))) clause) h.good
+    let placed : Option (ℕ × SpecWhy) → Option (ℕ × SpecWhy) = option_map (λ fault. (place (0 + (fault.0 - 0)), fault.1)) in
+    ap (λ c. unless (placed (clause_fault c)) c) h.lowered ∙ ap (λ fault. unless (placed fault) clause) h.good
 
 -- Which characters the parts hold.
 
@@ -97,7 +101,7 @@ words_of_one : (place : ℕ → ℕ) (clause : List ℕ) → IsClauseWord clause
 unfolding words_read
 words_of_one place clause h =
     ap (words_cut place clause) (no_first_cut 32 clause (clause_spaces clause h))
-    ∙ ap (λ (r : Read (List ℕ)). r >>= λ c. Ok (Some c, None)) (clause_reads place clause h)
+    ∙ ap (λ (r : SpecRead (List ℕ)). r >>= λ c. Ok (Some c, None)) (clause_reads place clause h)
 
 build_of_one : (place : ℕ → ℕ) (start : ℕ) (build : List ℕ) → IsFreeOf bars_build build → build_word place start build ≡ Ok build
 unfolding build_word
@@ -108,8 +112,8 @@ words_of_two : (place : ℕ → ℕ) (clause build : List ℕ) → IsClauseWord 
 unfolding words_read
 words_of_two place clause build h k =
     ap (words_cut place (clause ++ (32 ∷ build))) (first_cut 32 clause build (clause_spaces clause h))
-    ∙ ap (λ (r : Read (List ℕ)). r >>= λ c. build_word place (length clause + 1) build >>= λ b. Ok (Some c, Some b)) (clause_reads place clause h)
-    ∙ ap (λ (r : Read (List ℕ)). r >>= λ b. Ok (Some clause, Some b)) (build_of_one place (length clause + 1) build k)
+    ∙ ap (λ (r : SpecRead (List ℕ)). r >>= λ c. build_word place (length clause + 1) build >>= λ b. Ok (Some c, Some b)) (clause_reads place clause h)
+    ∙ ap (λ (r : SpecRead (List ℕ)). r >>= λ b. Ok (Some clause, Some b)) (build_of_one place (length clause + 1) build k)
 
 spaced_one : (place : ℕ → ℕ) (clause : List ℕ) → IsClauseWord clause → spaced_read place clause ≡ Ok (Some clause, None)
 unfolding spaced_read
@@ -239,7 +243,7 @@ channel_given : (channel : List ℕ) → IsFreeOf bars_channel channel → chann
 unfolding channel_read
 channel_given channel h =
     ap (channel_cut channel) (no_first_cut 47 channel (fewer bars_channel (is_this 47) no_slash channel h.1))
-    ∙ ap (λ (r : Read (List ℕ)). r >>= λ c. Ok (record nothing { channel = Some c })) (channel_reads 0 channel h)
+    ∙ ap (λ (r : SpecRead (List ℕ)). r >>= λ c. Ok (record nothing { channel = Some c })) (channel_reads 0 channel h)
 
 pub front_reads : (channel : Option (List ℕ)) (name : List ℕ) (version build : Option (List ℕ)) → IfSome channel (IsFreeOf bars_channel)
     → AllOf is_name_char name → name ≢ [] → CanFollow version build
@@ -253,7 +257,7 @@ front_reads (Some channel) name version build free chars some h =
     let rest : List ℕ = name ++ (word_text version ++ word_text build) in
     ap front_read (append_assoc channel (codes "::") rest)
     ∙ ap (front_cut (channel ++ (58 ∷ 58 ∷ rest))) (colons_cut channel rest (fewer bars_channel (is_this 58) no_colon channel free.1))
-    ∙ ap (λ (r : Read Given). r >>= λ given. named_read given (length channel + 2) rest) (channel_given channel free)
+    ∙ ap (λ (r : SpecRead Given). r >>= λ given. named_read given (length channel + 2) rest) (channel_given channel free)
     ∙ named_reads (record nothing { channel = Some channel }) (length channel + 2) name version build chars some h
 
 -- no `]` stands before the brackets

@@ -1,5 +1,5 @@
 -- Items in the brackets.
-use Rattle.std.proofs.Common.{◌≡◌, ◌≤◌, ◌<◌, ◌+◌, ◌-◌, ◌*◌, ◌&&◌, ℕ, Bool, true, false, cond, length, List, [], ◌∷◌, take, drop, get_or, refl, sym, ap, ◌∙◌, arith, true≢false, suc, Option, Some, None, Result, Ok, Err}
+use Rattle.std.proofs.Common.{◌≡◌, ◌≤◌, ◌<◌, ◌+◌, ◌-◌, ◌*◌, ◌&&◌, ℕ, Bool, true, false, cond, length, List, [], ◌∷◌, take, drop, get_or, refl, sym, ap, ◌∙◌, arith, true≢false, suc, Option, Some, None, IfSome, Result, Ok, Err}
 use Rattle.std.specs.Char.{is_ascii_digit}
 use Rattle.std.specs.List.{fold, list_all, onto_first}
 use Rattle.std.proofs.Math.Dec.{ltb}
@@ -8,8 +8,14 @@ use Rattle.conda_clause.specs.declared.error.SpecErr.{SpecErr}
 use Rattle.conda_clause.specs.declared.error.SpecErr.TheVariants.{BadSpec, Memory}
 use Rattle.conda_version.specs.Grammar.{is_number, number_of}
 use Rattle.conda_spec.specs.declared.given.Given.{Given}
-use Rattle.conda_spec.specs.Faults.{Fails, Gives, ◌>>=◌}
+use Rattle.conda_base.specs.Reads.{Gives, ◌>>=◌}
+use Rattle.conda_clause.specs.Faults.{spec_fault_of}
+use Rattle.conda_spec.specs.Reading.{SpecRead}
 use Rattle.conda_spec.specs.Reading.{ends_item, item_end, item_read, items_of, items_read, quote_behind, short_number}
+
+-- a refusal names its fault
+abbrev pub Fails : {A : Type 0} → SpecErr → SpecRead A → Type 0
+Fails e read = IfSome (spec_fault_of e) (λ fault. read ≡ Err fault)
 
 -- where the first item ends
 
@@ -78,7 +84,7 @@ pub items_next : (given next : Given) (at : ℕ) (item : List ℕ) (items : List
 unfolding items_read
 items_next given next at item items h = ap (λ r. r >>= λ next. items_read next (at + length item + 1) items) h
 
-pub items_last : (r : Result Given SpecErr) (given : Given) (at : ℕ) (item : List ℕ) → Gives r (item_read given at item) → Gives r (items_read given at (item ∷ []))
+pub items_last : (r : Result Given SpecErr) (given : Given) (at : ℕ) (item : List ℕ) → Gives spec_fault_of r (item_read given at item) → Gives spec_fault_of r (items_read given at (item ∷ []))
 unfolding items_read
 items_last (Ok x) given at item h = ap (λ r. r >>= λ next. items_read next (at + length item + 1) []) h
 items_last (Err e) given at item h = items_fail e given at item [] h

@@ -8,8 +8,9 @@ use Rattle.std.specs.Option.{option_and_then}
 use Rattle.conda_version.specs.Text.{trimmed}
 use Rattle.conda_clause.specs.Clause.{beside_build, clause_fault}
 use Rattle.conda_spec.specs.declared.given.Given.{Given}
-use Rattle.conda_spec.specs.Cuts.{around_last}
-use Rattle.conda_spec.specs.Faults.{Read, ◌>>=◌}
+use Rattle.conda_base.specs.Texts.{cut_last}
+use Rattle.conda_base.specs.Reads.{◌>>=◌}
+use Rattle.conda_spec.specs.Reading.{SpecRead}
 use Rattle.conda_spec.specs.Parts.{IsFreeOf, IsSpec, Parts, bars_build, bars_channel, is_name_char}
 use Rattle.conda_spec.specs.Reading.{Front, front_read, is_equal_word, is_sign_or_equals, items_of, items_read, nothing, parts_of, spec_cut, spec_read}
 use Rattle.conda_spec.specs.Text.{brackets_text, channel_text, spec_text, word_text}
@@ -128,8 +129,8 @@ reads_bare : (parts : Parts) → IsSpec parts → CanFollow parts.version parts.
 unfolding spec_read front_text
 reads_bare parts h follow no_number no_subdir =
     let closes : NoneOf (is_this 93) (front_text parts) = front_closes_nothing parts.channel parts.name parts.version parts.build h.channel h.name.1 follow in
-    ap (spec_cut (front_text parts)) (ap (option_and_then (around_last 91)) (no_last_off 93 (front_text parts) closes))
-    ∙ ap (λ (r : Read Front). r >>= λ front. Ok (parts_of front nothing)) (reads_front parts h follow)
+    ap (spec_cut (front_text parts)) (ap (option_and_then (cut_last 91)) (no_last_off 93 (front_text parts) closes))
+    ∙ ap (λ (r : SpecRead Front). r >>= λ front. Ok (parts_of front nothing)) (reads_front parts h follow)
     ∙ ap (λ (p : Parts). Ok p)
     (same_parts parts.channel None parts.name parts.version parts.build None h.together
     ∙ ap (λ (s : Option (List ℕ)). record { channel = parts.channel; subdir = s; name = parts.name; version = parts.version; build = parts.build; number = None }) (sym no_subdir)
@@ -142,8 +143,8 @@ reads_brackets parts h follow some =
     let front : Front = front_of parts.channel parts.name parts.version parts.build in
     let text : List ℕ = front_text parts in
     ap (spec_cut (text ++ brackets_text parts.number parts.subdir)) (brackets_cut text parts.number parts.subdir some h.number h.subdir)
-    ∙ ap (λ (r : Read Front). r >>= λ front. items_read nothing (length text + 1) (items_of None (inner parts.number parts.subdir)) >>= λ given. Ok (parts_of front given)) (reads_front parts h follow)
-    ∙ ap (λ (r : Read Given). r >>= λ given. Ok (parts_of front given)) (items_give (length text + 1) parts.number parts.subdir some h.number h.subdir)
+    ∙ ap (λ (r : SpecRead Front). r >>= λ front. items_read nothing (length text + 1) (items_of None (inner parts.number parts.subdir)) >>= λ given. Ok (parts_of front given)) (reads_front parts h follow)
+    ∙ ap (λ (r : SpecRead Given). r >>= λ given. Ok (parts_of front given)) (items_give (length text + 1) parts.number parts.subdir some h.number h.subdir)
     ∙ ap (λ (p : Parts). Ok p) (same_parts parts.channel parts.subdir parts.name parts.version parts.build parts.number h.together)
 
 reads_by : (number : Option ℕ) (subdir : Option (List ℕ)) (parts : Parts) → parts.number ≡ number → parts.subdir ≡ subdir → IsSpec parts → CanFollow parts.version parts.build

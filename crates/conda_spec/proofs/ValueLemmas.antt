@@ -1,5 +1,7 @@
 -- Channels, builds and version clauses.
-use Rattle.std.proofs.Common.{◌≡◌, ◌∙◌, ◌||◌, ◌<◌, ℕ, Bool, true, false, not, length, map, List, [], ◌∷◌, refl, sym, ap, arith, true≢false, None}
+use Rattle.std.proofs.Common.{◌≡◌, ◌∙◌, ◌||◌, ◌<◌, ℕ, Bool, true, false, not, length, map, List, [], ◌∷◌, refl, sym, ap, arith, true≢false, subst, Option, None, Some, Ok}
+use Rattle.conda_base.specs.Reads.{unless}
+use Rattle.conda_clause.specs.Faults.{kept_read}
 use Rattle.std.specs.Char.{to_ascii_lowercase}
 use Rattle.std.specs.List.{AllByRecursion, list_any}
 use Rattle.std.proofs.lemmas.Bool.Decides.{nat_tests}
@@ -32,6 +34,12 @@ pub lowered : (text : List ℕ) → map to_ascii_lowercase (map to_ascii_lowerca
 lowered [] = refl
 lowered (b ∷ text) = ap (λ c. c ∷ map to_ascii_lowercase (map to_ascii_lowercase text)) (lower_twice b) ∙ ap (λ rest. to_ascii_lowercase b ∷ rest) (lowered text)
 
+unless_ok : {A F : Type 0} (fault : Option F) (x y : A) → unless fault x ≡ Ok y → (fault ≡ None) × (x ≡ y)
+unless_ok None x y h = (refl, cc)
+unless_ok (Some f) x y h = absurd (cc)
+
 -- a clause that was read
-pub clause_is : (clause text : List ℕ) → clause ≡ map to_ascii_lowercase text → clause_fault (map to_ascii_lowercase text) ≡ None → IsClause clause
-clause_is clause text same good = rw same (good, lowered text)
+pub clause_is : (clause text : List ℕ) → kept_read text ≡ Ok clause → IsClause clause
+clause_is clause text h =
+    let found = unless_ok (clause_fault (map to_ascii_lowercase text)) (map to_ascii_lowercase text) clause h in
+    subst IsClause found.1 (found.0, lowered text)

@@ -2,12 +2,13 @@ ghost use Rattle.std.specs.Prelude.{◌≡◌, ◌==◌, ◌+◌, ◌<◌, [], �
 ghost use Rattle.std.specs.List.{list_any};
 ghost use Rattle.std.specs.Option.{option_map};
 ghost use Rattle.conda_version.specs.Text.{holds};
-ghost use Rattle.conda_spec.specs.Faults.{Gives};
+ghost use Rattle.conda_base.specs.Reads.{Gives};
+ghost use Rattle.conda_clause.specs.Faults.{spec_fault_of};
 ghost use Rattle.conda_spec.specs.Good.{IsClause, IsGiven};
 ghost use Rattle.conda_spec.specs.Reading as reading;
 ghost use Rattle.conda_spec.specs.Reading.{bars_bare, clause_value, has_key, is_quote, item_end, item_read, items_of, items_read, key_of, number_or, put, quote_behind, short_number, value_of};
 
-use crate::cuts::{around_first, behind, without_last};
+use crate::cuts::{cut_first, behind, without_last};
 use crate::given::{Given, ItemKey, nothing};
 use crate::stay::stay;
 use crate::values::{build_at, channel_at, clause_at, fault};
@@ -161,7 +162,7 @@ fn short_number(text: &[u8]) -> Option<u64>
 #[tactic(auto, unfolding(crate::specs::Reading::clause_value))]
 fn clause_value(alloc: Global, at: usize, text: &str) -> Result<VersionClause, SpecErr>
     requires { at + length text.now < 18446744073709551616 }
-    ensures read { Gives result (clause_value at text.now) }
+    ensures read { Gives spec_fault_of result (clause_value at text.now) }
     ensures good { IfOk result IsClause }
 {
     let stayed = stay(alloc, at, text)?;
@@ -169,7 +170,7 @@ fn clause_value(alloc: Global, at: usize, text: &str) -> Result<VersionClause, S
 }
 
 fn number_at(at: usize, text: &str) -> Result<u64, SpecErr>
-    ensures { Gives result (number_or at (short_number text.now)) }
+    ensures { Gives spec_fault_of result (number_or at (short_number text.now)) }
 {
     match short_number(text.as_bytes()) {
         Some(n) => Ok(n),
@@ -189,7 +190,7 @@ fn put(
 ) -> Result<Given, SpecErr>
     requires room { place + length text.now < 18446744073709551616 }
     requires good { IsGiven given }
-    ensures read { Gives result (put given key at (place, text.now)) }
+    ensures read { Gives spec_fault_of result (put given key at (place, text.now)) }
     ensures good { IfOk result IsGiven }
 {
     let mut given = given;
@@ -208,10 +209,10 @@ fn put(
 fn item(alloc: Global, given: Given, at: usize, text: &str) -> Result<Given, SpecErr>
     requires room { at + length text.now < 18446744073709551616 }
     requires good { IsGiven given }
-    ensures read { Gives result (item_read given at text.now) }
+    ensures read { Gives spec_fault_of result (item_read given at text.now) }
     ensures good { IfOk result IsGiven }
 {
-    let Some((key, value)) = around_first(text, '=') else {
+    let Some((key, value)) = cut_first(text, '=') else {
         return Err(fault(at, SpecWhy::Key));
     };
     let Some((place, value)) = value_of(at + key.len() + 1, value) else {
@@ -231,7 +232,7 @@ fn item(alloc: Global, given: Given, at: usize, text: &str) -> Result<Given, Spe
 /// The items in the brackets, of which the first begins at a place.
 pub fn items(alloc: Global, start: usize, text: &str) -> Result<Given, SpecErr>
     requires { start + length text.now < 18446744073709551616 }
-    ensures read { Gives result (items_read reading.nothing start (items_of None text.now)) }
+    ensures read { Gives spec_fault_of result (items_read reading.nothing start (items_of None text.now)) }
     ensures good { IfOk result IsGiven }
 {
     let mut given = nothing();

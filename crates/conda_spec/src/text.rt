@@ -37,51 +37,11 @@ impl Spec {
         let brackets = brackets.as_str();
         format!(in alloc; "{channel}{name}{version}{build}{brackets}")
     }
-
-    /// An equal specification.
-    pub fn copy(&self, alloc: Global) -> Result<Spec, AllocError>
-        ensures { IfOk result (λ s. s ≡ self.now) }
-    {
-        let channel = copied_text(alloc, &self.channel)?;
-        let subdir = copied_text(alloc, &self.subdir)?;
-        let name = self.name.copy(alloc)?;
-        let version = copied_version(alloc, &self.version)?;
-        let build = copied_text(alloc, &self.build)?;
-        Ok(Spec {
-            channel,
-            subdir,
-            name,
-            version,
-            build,
-            number: self.number,
-        })
-    }
 }
 
 impl Copied for Spec {
-    fn copied(&self, alloc: Global) -> Result<Spec, AllocError> {
-        self.copy(alloc)
-    }
-}
-
-fn copied_text(alloc: Global, part: &Option<Text>) -> Result<Option<Text>, AllocError>
-    ensures { IfOk result (λ p. p ≡ part.now) }
-{
-    match part {
-        Some(text) => Ok(Some(text.copy(alloc)?)),
-        None => Ok(None),
-    }
-}
-
-fn copied_version(
-    alloc: Global,
-    part: &Option<VersionClause>,
-) -> Result<Option<VersionClause>, AllocError>
-    ensures { IfOk result (λ p. p ≡ part.now) }
-{
-    match part {
-        Some(clause) => Ok(Some(clause.copy(alloc)?)),
-        None => Ok(None),
+    fn copy(&self) -> Result<Spec, AllocError> {
+        self.clone()
     }
 }
 

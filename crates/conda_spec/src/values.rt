@@ -1,6 +1,7 @@
 ghost use Rattle.std.specs.Prelude.{◌≡◌, ◌==◌, ◌++◌, ◌<◌, IfOk, codes, nat_lt, string_bytes, true};
 ghost use Rattle.std.specs.List.{list_any};
-ghost use Rattle.conda_spec.specs.Faults.{Gives};
+ghost use Rattle.conda_base.specs.Reads.{Gives};
+ghost use Rattle.conda_clause.specs.Faults.{spec_fault_of};
 ghost use Rattle.conda_spec.specs.Good.{IsClause, stood};
 ghost use Rattle.conda_spec.specs.Parts.{IsFreeOf, bars_build, bars_channel, is_one_of};
 ghost use Rattle.conda_spec.specs.Reading.{build_at, channel_at, clause_at, ends_with_star, equal_at, is_free};
@@ -65,7 +66,7 @@ fn is_build(text: &[u8]) -> bool
 /// A channel or a subdir.
 #[tactic(auto, unfolding(crate::specs::Reading::channel_at))]
 pub fn channel_at(alloc: Global, at: usize, text: &str) -> Result<Text, SpecErr>
-    ensures read { Gives result (channel_at at text.now) }
+    ensures read { Gives spec_fault_of result (channel_at at text.now) }
     ensures good { IfOk result (IsFreeOf bars_channel) }
 {
     if !is_channel(text.as_bytes()) {
@@ -76,7 +77,7 @@ pub fn channel_at(alloc: Global, at: usize, text: &str) -> Result<Text, SpecErr>
 
 #[tactic(auto, unfolding(crate::specs::Reading::build_at))]
 pub fn build_at(alloc: Global, at: usize, text: &str) -> Result<Text, SpecErr>
-    ensures read { Gives result (build_at at text.now) }
+    ensures read { Gives spec_fault_of result (build_at at text.now) }
     ensures good { IfOk result (IsFreeOf bars_build) }
 {
     if !is_build(text.as_bytes()) {
@@ -94,7 +95,7 @@ pub fn clause_at(
     added: usize,
     text: &str,
 ) -> Result<VersionClause, SpecErr>
-    ensures read { Gives result (clause_at (stood places.now) start added text.now) }
+    ensures read { Gives spec_fault_of result (clause_at (stood places.now) start added text.now) }
     ensures good { IfOk result IsClause }
 {
     match VersionClause::of_kept(alloc, text) {
@@ -121,7 +122,7 @@ pub fn equal_at(
     start: usize,
     version: &str,
 ) -> Result<VersionClause, SpecErr>
-    ensures read { Gives result (equal_at (stood places.now) start version.now) }
+    ensures read { Gives spec_fault_of result (equal_at (stood places.now) start version.now) }
     ensures good { IfOk result IsClause }
 {
     if ends_with_star(version) {
