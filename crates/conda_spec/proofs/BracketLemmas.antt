@@ -15,10 +15,10 @@ use Rattle.conda_base.specs.Texts.{cut_last}
 use Rattle.conda_spec.specs.Cuts.{without_last}
 use Rattle.conda_base.specs.Reads.{◌>>=◌}
 use Rattle.conda_spec.specs.Reading.{SpecRead}
-use Rattle.conda_spec.specs.Parts.{IsFreeOf, bars_channel}
+use Rattle.conda_spec.specs.Parts.{IsFreeWord, NoneOf, bars_channel}
 use Rattle.conda_spec.specs.Reading.{bars_bare, brackets_of, is_quote, item_key, item_read, items_of, items_read, nothing, put, short_number, value_of, without_quote}
 use Rattle.conda_spec.specs.Text.{brackets_text}
-use Rattle.conda_spec.proofs.PieceLemmas.{AllOf, NoneOf, fewer, none_in_both, none_of_all}
+use Rattle.conda_spec.proofs.PieceLemmas.{AllOf, fewer, none_in_both, none_of_all}
 use Rattle.conda_spec.proofs.KeptLemmas.{is_space}
 use Rattle.conda_spec.proofs.SeamLemmas.{is_this, last_cut_at, last_off}
 use Rattle.conda_spec.proofs.FrontLemmas.{channel_reads, none_any}
@@ -111,7 +111,7 @@ number_item given at n h new =
     ap (item_key given at (Some keys.BuildNumber)) (value_is (at + 12 + 1) (decimal n) (some_digits n h) (none_of_all is_ascii_digit bars_bare no_bar_in_digit (decimal n) (digits_are n h)))
     ∙ rw new (rw (number_reads n h) refl)
 
-subdir_item : (given : Given) (at : ℕ) (subdir : List ℕ) → IsFreeOf bars_channel subdir → given.subdir ≡ None
+subdir_item : (given : Given) (at : ℕ) (subdir : List ℕ) → IsFreeWord bars_channel subdir → given.subdir ≡ None
     → item_read given at (codes "subdir=" ++ subdir) ≡ Ok (record given { subdir = Some subdir })
 unfolding item_read put
 subdir_item given at subdir h new =
@@ -136,13 +136,13 @@ unfolding bars_item
 number_chars n h = none_in_both bars_item (codes "build_number=") (decimal n) (refl, (refl, (refl, (refl, (refl, (refl, (refl, (refl, (refl, (refl, (refl, (refl, (refl, tt)))))))))))))
     (none_of_all is_ascii_digit bars_item no_end_in_digit (decimal n) (digits_are n h))
 
-subdir_chars : (subdir : List ℕ) → IsFreeOf bars_channel subdir → NoneOf bars_item (codes "subdir=" ++ subdir)
+subdir_chars : (subdir : List ℕ) → IsFreeWord bars_channel subdir → NoneOf bars_item (codes "subdir=" ++ subdir)
 unfolding bars_item
 subdir_chars subdir h = none_in_both bars_item (codes "subdir=") subdir (refl, (refl, (refl, (refl, (refl, (refl, (refl, tt)))))))
     (fewer bars_channel bars_item no_end_in_subdir subdir h.1)
 
 -- the items give the number and the subdir again
-pub items_give : (at : ℕ) (number : Option ℕ) (subdir : Option (List ℕ)) → HasBrackets number subdir → IfSome number (λ n. n < 18446744073709551616) → IfSome subdir (IsFreeOf bars_channel)
+pub items_give : (at : ℕ) (number : Option ℕ) (subdir : Option (List ℕ)) → HasBrackets number subdir → IfSome number (λ n. n < 18446744073709551616) → IfSome subdir (IsFreeWord bars_channel)
     → items_read nothing at (items_of None (inner number subdir)) ≡ Ok (record nothing { number = number; subdir = subdir })
 unfolding inner items_read
 items_give at None None some h k = absurd some
@@ -173,10 +173,10 @@ pub record IsNotInner (p : ℕ → Bool) : Type 0 where
 not_in_number : (p : ℕ → Bool) → IsNotInner p → (n : ℕ) → n < 18446744073709551616 → NoneOf p (codes "build_number=" ++ decimal n)
 not_in_number p f n h = none_in_both p (codes "build_number=") (decimal n) f.number_key (none_of_all is_ascii_digit p f.digit (decimal n) (digits_are n h))
 
-not_in_subdir : (p : ℕ → Bool) → IsNotInner p → (subdir : List ℕ) → IsFreeOf bars_channel subdir → NoneOf p (codes "subdir=" ++ subdir)
+not_in_subdir : (p : ℕ → Bool) → IsNotInner p → (subdir : List ℕ) → IsFreeWord bars_channel subdir → NoneOf p (codes "subdir=" ++ subdir)
 not_in_subdir p f subdir h = none_in_both p (codes "subdir=") subdir f.subdir_key (fewer bars_channel p f.subdir subdir h.1)
 
-pub not_inner : (p : ℕ → Bool) → IsNotInner p → (number : Option ℕ) (subdir : Option (List ℕ)) → IfSome number (λ n. n < 18446744073709551616) → IfSome subdir (IsFreeOf bars_channel)
+pub not_inner : (p : ℕ → Bool) → IsNotInner p → (number : Option ℕ) (subdir : Option (List ℕ)) → IfSome number (λ n. n < 18446744073709551616) → IfSome subdir (IsFreeWord bars_channel)
     → NoneOf p (inner number subdir)
 unfolding inner
 not_inner p f None None h k = tt
@@ -212,7 +212,7 @@ brackets_hold None (Some subdir) some = refl
 brackets_hold (Some n) (Some subdir) some =
     ap (λ t. codes "[build_number=" ++ t) (sym (append_assoc (decimal n) (codes ",subdir=" ++ subdir) (codes "]")))
 
-pub brackets_cut : (front : List ℕ) (number : Option ℕ) (subdir : Option (List ℕ)) → HasBrackets number subdir → IfSome number (λ n. n < 18446744073709551616) → IfSome subdir (IsFreeOf bars_channel)
+pub brackets_cut : (front : List ℕ) (number : Option ℕ) (subdir : Option (List ℕ)) → HasBrackets number subdir → IfSome number (λ n. n < 18446744073709551616) → IfSome subdir (IsFreeWord bars_channel)
     → brackets_of (front ++ brackets_text number subdir) ≡ Some (front, inner number subdir)
 brackets_cut front number subdir some h k =
     ap (λ t. brackets_of (front ++ t)) (brackets_hold number subdir some)
@@ -220,13 +220,13 @@ brackets_cut front number subdir some h k =
     ∙ ap (option_and_then (cut_last 91)) (last_off 93 (front ++ (91 ∷ inner number subdir)))
     ∙ last_cut_at 91 front (inner number subdir) (not_inner (is_this 91) opening_not_inner number subdir h k)
 
-spaceless : (number : Option ℕ) (subdir : Option (List ℕ)) → HasBrackets number subdir → IfSome number (λ n. n < 18446744073709551616) → IfSome subdir (IsFreeOf bars_channel)
+spaceless : (number : Option ℕ) (subdir : Option (List ℕ)) → HasBrackets number subdir → IfSome number (λ n. n < 18446744073709551616) → IfSome subdir (IsFreeWord bars_channel)
     → NoneOf is_space (brackets_text number subdir)
 spaceless number subdir some h k =
     subst (NoneOf is_space) (sym (brackets_hold number subdir some)) (refl, none_in_both is_space (inner number subdir) (93 ∷ []) (not_inner is_space space_not_inner number subdir h k) (refl, tt))
 
 -- no space stands in the brackets
-pub brackets_hold_no_space : (number : Option ℕ) (subdir : Option (List ℕ)) → IfSome number (λ n. n < 18446744073709551616) → IfSome subdir (IsFreeOf bars_channel)
+pub brackets_hold_no_space : (number : Option ℕ) (subdir : Option (List ℕ)) → IfSome number (λ n. n < 18446744073709551616) → IfSome subdir (IsFreeWord bars_channel)
     → NoneOf is_space (brackets_text number subdir)
 brackets_hold_no_space None None h k = tt
 brackets_hold_no_space (Some n) subdir h k = spaceless (Some n) subdir tt h k

@@ -1,4 +1,5 @@
 -- Lemmas on the text of a version clause: what characters it holds, how it begins and how it ends.
+use Rattle.conda_spec.specs.Parts.{NoneOf}
 use Rattle.std.proofs.Common.{◌≡◌, ◌≢◌, ◌==◌, ℕ, zero, suc, subst, true≢false, ◌+◌, ◌-◌, ◌≤◌, Bool, true, false, cond, length, List, [], ◌∷◌, ◌++◌, take, drop, refl, sym, ap, ◌∙◌, arith, append-nil, length-drop}
 use Rattle.std.proofs.lemmas.Bool.Decides.{nat_tests}
 use Rattle.std.proofs.lemmas.List.{take-append-drop}
@@ -22,7 +23,7 @@ use Rattle.conda_clause.specs.Pieces.{begins_test, is_mark, piece_len, pieces, t
 use Rattle.conda_clause.specs.Tests.{ends_with, is_any, is_equal_sign, is_version_char, shortened, sign_len, sign_of, signed, test_of, test_with, version_text, without_star}
 use Rattle.conda_clause.proofs.PieceLemmas.{pieces_first}
 use Rattle.conda_clause.proofs.TestLemmas.{version_chars}
-use Rattle.conda_spec.proofs.PieceLemmas.{NoneOf, none_in_both}
+use Rattle.conda_spec.proofs.PieceLemmas.{none_in_both}
 
 -- a character that no version clause holds: no letter, no digit, and none of `._+!-*=<>~,|()`
 abbrev pub bars_clause : ℕ → Bool

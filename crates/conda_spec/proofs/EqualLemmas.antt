@@ -1,4 +1,5 @@
 -- A version clause that is `=v` does not stay as it is beside a build.
+use Rattle.conda_spec.specs.Parts.{NoneOf}
 use Rattle.std.proofs.Common.{◌≡◌, ◌==◌, ℕ, true≢false, ◌+◌, Bool, true, false, cond, length, List, [], ◌∷◌, ◌++◌, drop, refl, sym, ap, inl, inr, ◌∙◌, arith}
 use Rattle.std.proofs.lemmas.Bool.Decides.{nat_tests}
 use Rattle.std.specs.Prelude.{None, Some, ◌⊎◌, not, codes, Option, option_and_then, ◌||◌, is_none}
@@ -16,7 +17,7 @@ use Rattle.conda_clause.specs.Clause.{after, beside_build, clause_fault, fault_f
 use Rattle.conda_clause.specs.Pieces.{is_mark, pieces, token_of, tokens}
 use Rattle.conda_clause.specs.Tests.{ends_with, is_any, is_version_char, sign_len, sign_of, test_of, test_with, version_text, without_star}
 use Rattle.conda_clause.proofs.TestLemmas.{version_chars}
-use Rattle.conda_spec.proofs.PieceLemmas.{NoneOf}
+
 use Rattle.conda_spec.proofs.ClauseWords.{and_left, lesser_none, none_is, token_is_test}
 
 -- One test is one piece.

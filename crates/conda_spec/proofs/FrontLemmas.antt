@@ -14,10 +14,10 @@ use Rattle.conda_clause.specs.Kept.{drops_behind, is_joint, kept, last_of}
 use Rattle.conda_spec.specs.declared.given.Given.{Given}
 use Rattle.conda_base.specs.Reads.{◌>>=◌, unless}
 use Rattle.conda_spec.specs.Reading.{SpecRead}
-use Rattle.conda_spec.specs.Parts.{IsFreeOf, bars_build, bars_channel, is_name_char, is_one_of}
-use Rattle.conda_spec.specs.Reading.{Wanted, build_at, build_word, channel_at, channel_cut, channel_read, clause_at, ends_name, followed_read, front_cut, front_read, is_equal_word, is_free, last_word, named_read, nothing, spaced_cut, spaced_read, wanted_read, with_wanted, words_cut, words_read}
+use Rattle.conda_spec.specs.Parts.{IsFreeWord, NoneOf, bars_build, bars_channel, is_name_char, is_one_of}
+use Rattle.conda_spec.specs.Reading.{VersionAndBuild, build_at, build_word, channel_at, channel_cut, channel_read, clause_at, ends_name, followed_read, front_cut, front_read, is_equal_word, is_free, last_word, named_read, nothing, spaced_cut, spaced_read, wanted_read, with_wanted, words_cut, words_read}
 use Rattle.conda_spec.specs.Text.{channel_text, word_text}
-use Rattle.conda_spec.proofs.PieceLemmas.{AllOf, NoneOf, fewer, first_place, no_place, none_in_both, none_of_all}
+use Rattle.conda_spec.proofs.PieceLemmas.{AllOf, fewer, first_place, no_place, none_in_both, none_of_all}
 use Rattle.conda_spec.proofs.KeptLemmas.{is_space, kept_word, kept_words}
 use Rattle.conda_spec.proofs.SeamLemmas.{colons_cut, first_cut, is_this, no_colons, no_first_cut}
 
@@ -44,15 +44,15 @@ pub none_any : (p : ℕ → Bool) (xs : List ℕ) → NoneOf p xs → list_any p
 none_any p [] h = refl
 none_any p (x ∷ xs) h = rw (h.0) (none_any p xs h.1)
 
-free_is : (bars : ℕ → Bool) (text : List ℕ) → IsFreeOf bars text → is_free bars text ≡ true
+free_is : (bars : ℕ → Bool) (text : List ℕ) → IsFreeWord bars text → is_free bars text ≡ true
 free_is bars [] h = absurd (h.0 refl)
 free_is bars (x ∷ xs) h = rw (none_any bars (x ∷ xs) h.1) (grind (arith, nat_tests))
 
-pub channel_reads : (at : ℕ) (text : List ℕ) → IsFreeOf bars_channel text → channel_at at text ≡ Ok text
+pub channel_reads : (at : ℕ) (text : List ℕ) → IsFreeWord bars_channel text → channel_at at text ≡ Ok text
 unfolding channel_at
 channel_reads at text h = rw (free_is bars_channel text h) refl
 
-pub build_reads : (at : ℕ) (text : List ℕ) → IsFreeOf bars_build text → build_at at text ≡ Ok text
+pub build_reads : (at : ℕ) (text : List ℕ) → IsFreeWord bars_build text → build_at at text ≡ Ok text
 unfolding build_at
 build_reads at text h = rw (free_is bars_build text h) refl
 
@@ -103,12 +103,12 @@ words_of_one place clause h =
     ap (words_cut place clause) (no_first_cut 32 clause (clause_spaces clause h))
     ∙ ap (λ (r : SpecRead (List ℕ)). r >>= λ c. Ok (Some c, None)) (clause_reads place clause h)
 
-build_of_one : (place : ℕ → ℕ) (start : ℕ) (build : List ℕ) → IsFreeOf bars_build build → build_word place start build ≡ Ok build
+build_of_one : (place : ℕ → ℕ) (start : ℕ) (build : List ℕ) → IsFreeWord bars_build build → build_word place start build ≡ Ok build
 unfolding build_word
 build_of_one place start build h =
     ap (last_word start place build) (no_first_cut 32 build (fewer bars_build is_space no_space_in_build build h.1)) ∙ build_reads (place start) build h
 
-words_of_two : (place : ℕ → ℕ) (clause build : List ℕ) → IsClauseWord clause → IsFreeOf bars_build build → words_read place (clause ++ (32 ∷ build)) ≡ Ok (Some clause, Some build)
+words_of_two : (place : ℕ → ℕ) (clause build : List ℕ) → IsClauseWord clause → IsFreeWord bars_build build → words_read place (clause ++ (32 ∷ build)) ≡ Ok (Some clause, Some build)
 unfolding words_read
 words_of_two place clause build h k =
     ap (words_cut place (clause ++ (32 ∷ build))) (first_cut 32 clause build (clause_spaces clause h))
@@ -119,7 +119,7 @@ spaced_one : (place : ℕ → ℕ) (clause : List ℕ) → IsClauseWord clause �
 unfolding spaced_read
 spaced_one place clause h = ap (spaced_cut place clause) (no_first_cut 32 clause (clause_spaces clause h)) ∙ words_of_one place clause h
 
-spaced_two : (place : ℕ → ℕ) (clause build : List ℕ) → IsClauseWord clause → is_equal_word clause ≡ false → IsFreeOf bars_build build
+spaced_two : (place : ℕ → ℕ) (clause build : List ℕ) → IsClauseWord clause → is_equal_word clause ≡ false → IsFreeWord bars_build build
     → spaced_read place (clause ++ (32 ∷ build)) ≡ Ok (Some clause, Some build)
 unfolding spaced_read
 spaced_two place clause build h other k =
@@ -133,7 +133,7 @@ kept_one : (clause : List ℕ) → IsClauseWord clause → kept (32 ∷ clause) 
 kept_one clause h =
     subst (λ c. NoneOf is_space c → kept (32 ∷ c) ≡ c) (sym h.whole) (λ spaces. kept_word h.first h.others spaces) (clause_spaces clause h)
 
-kept_two : (clause build : List ℕ) → IsClauseWord clause → IsFreeOf bars_build build → kept (32 ∷ (clause ++ (32 ∷ build))) ≡ clause ++ (32 ∷ build)
+kept_two : (clause build : List ℕ) → IsClauseWord clause → IsFreeWord bars_build build → kept (32 ∷ (clause ++ (32 ∷ build))) ≡ clause ++ (32 ∷ build)
 kept_two clause [] h k = absurd (k.0 refl)
 kept_two clause (c ∷ cs) h k =
     subst (λ t. NoneOf is_space t → last_of None t ≡ Some h.last → kept (32 ∷ (t ++ (32 ∷ (c ∷ cs)))) ≡ t ++ (32 ∷ (c ∷ cs))) (sym h.whole)
@@ -146,7 +146,7 @@ followed_one at clause h =
     let place : ℕ → ℕ = λ i. at + place_of (32 ∷ clause) i in
     ap (wanted_read place true) (kept_one clause h) ∙ wanted_spaced place clause h.first h.others h.whole h.begins ∙ spaced_one place clause h
 
-followed_two : (at : ℕ) (clause build : List ℕ) → IsClauseWord clause → is_equal_word clause ≡ false → IsFreeOf bars_build build
+followed_two : (at : ℕ) (clause build : List ℕ) → IsClauseWord clause → is_equal_word clause ≡ false → IsFreeWord bars_build build
     → followed_read at (32 ∷ (clause ++ (32 ∷ build))) ≡ Ok (Some clause, Some build)
 unfolding followed_read
 followed_two at clause build h other k =
@@ -166,7 +166,7 @@ name_lowered : (name : List ℕ) → AllOf is_name_char name → map to_ascii_lo
 name_lowered [] h = refl
 name_lowered (b ∷ bs) h = ap (λ c. c ∷ map to_ascii_lowercase bs) (name_char_lowered b (h.0)) ∙ ap (λ cs. b ∷ cs) (name_lowered bs h.1)
 
-named_at : (given : Given) (at : ℕ) (name rest : List ℕ) (wanted : Wanted) → AllOf is_name_char name → name ≢ []
+named_at : (given : Given) (at : ℕ) (name rest : List ℕ) (wanted : VersionAndBuild) → AllOf is_name_char name → name ≢ []
     → position_or_len ends_name (name ++ rest) ≡ length name → followed_read (at + length name) rest ≡ Ok wanted
     → named_read given at (name ++ rest) ≡ Ok (name, with_wanted given wanted)
 unfolding named_read
@@ -179,7 +179,7 @@ unfoldable pub CanFollow : Option (List ℕ) → Option (List ℕ) → Type 0
 CanFollow None None = Unit {0}
 CanFollow None (Some build) = ⊥
 CanFollow (Some clause) None = IsClauseWord clause
-CanFollow (Some clause) (Some build) = IsClauseWord clause × (is_equal_word clause ≡ false) × IsFreeOf bars_build build
+CanFollow (Some clause) (Some build) = IsClauseWord clause × (is_equal_word clause ≡ false) × IsFreeWord bars_build build
 
 followed_reads : (at : ℕ) (version build : Option (List ℕ)) → CanFollow version build → followed_read at (word_text version ++ word_text build) ≡ Ok (version, build)
 unfolding CanFollow
@@ -239,13 +239,13 @@ closing_foreign = record {
 
 -- The whole front.
 
-channel_given : (channel : List ℕ) → IsFreeOf bars_channel channel → channel_read channel ≡ Ok (record nothing { channel = Some channel })
+channel_given : (channel : List ℕ) → IsFreeWord bars_channel channel → channel_read channel ≡ Ok (record nothing { channel = Some channel })
 unfolding channel_read
 channel_given channel h =
     ap (channel_cut channel) (no_first_cut 47 channel (fewer bars_channel (is_this 47) no_slash channel h.1))
     ∙ ap (λ (r : SpecRead (List ℕ)). r >>= λ c. Ok (record nothing { channel = Some c })) (channel_reads 0 channel h)
 
-pub front_reads : (channel : Option (List ℕ)) (name : List ℕ) (version build : Option (List ℕ)) → IfSome channel (IsFreeOf bars_channel)
+pub front_reads : (channel : Option (List ℕ)) (name : List ℕ) (version build : Option (List ℕ)) → IfSome channel (IsFreeWord bars_channel)
     → AllOf is_name_char name → name ≢ [] → CanFollow version build
     → front_read (channel_text channel ++ (name ++ (word_text version ++ word_text build)))
     ≡ Ok (name, record { channel = channel; subdir = None; version = version; build = build; number = None })
@@ -261,7 +261,7 @@ front_reads (Some channel) name version build free chars some h =
     ∙ named_reads (record nothing { channel = Some channel }) (length channel + 2) name version build chars some h
 
 -- no `]` stands before the brackets
-pub front_closes_nothing : (channel : Option (List ℕ)) (name : List ℕ) (version build : Option (List ℕ)) → IfSome channel (IsFreeOf bars_channel)
+pub front_closes_nothing : (channel : Option (List ℕ)) (name : List ℕ) (version build : Option (List ℕ)) → IfSome channel (IsFreeWord bars_channel)
     → AllOf is_name_char name → CanFollow version build
     → NoneOf (is_this 93) (channel_text channel ++ (name ++ (word_text version ++ word_text build)))
 front_closes_nothing None name version build free chars h = foreign (is_this 93) closing_foreign name version build chars h

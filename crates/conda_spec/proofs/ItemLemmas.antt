@@ -38,7 +38,7 @@ pub record Ends (at : ℕ) (quote : Option ℕ) (s : List ℕ) (end : ℕ) : Typ
   pub comma : get_or s len 0 ≡ 44
   pub items : items_of quote s ≡ take len s ∷ items_of None (drop (len + 1) s)
 
-comma_of : (quote : Option ℕ) (b : ℕ) → ends_item quote b ≡ true → b ≡ 44
+pub comma_of : (quote : Option ℕ) (b : ℕ) → ends_item quote b ≡ true → b ≡ 44
 comma_of None b h = eqb-true b 44 h
 comma_of (Some q) b h = absurd (true≢false (sym h))
 

@@ -11,10 +11,10 @@ use Rattle.conda_spec.specs.declared.given.Given.{Given}
 use Rattle.conda_base.specs.Texts.{cut_last}
 use Rattle.conda_base.specs.Reads.{◌>>=◌}
 use Rattle.conda_spec.specs.Reading.{SpecRead}
-use Rattle.conda_spec.specs.Parts.{IsFreeOf, IsSpec, Parts, bars_build, bars_channel, is_name_char}
+use Rattle.conda_spec.specs.Parts.{IsFreeWord, IsSpec, NoneOf, Parts, bars_build, bars_channel, is_name_char}
 use Rattle.conda_spec.specs.Reading.{Front, front_read, is_equal_word, is_sign_or_equals, items_of, items_read, nothing, parts_of, spec_cut, spec_read}
 use Rattle.conda_spec.specs.Text.{brackets_text, channel_text, spec_text, word_text}
-use Rattle.conda_spec.proofs.PieceLemmas.{AllOf, NoneOf, fewer, none_in_both, none_of_all}
+use Rattle.conda_spec.proofs.PieceLemmas.{AllOf, fewer, none_in_both, none_of_all}
 use Rattle.conda_spec.proofs.KeptLemmas.{is_space}
 use Rattle.conda_spec.proofs.SeamLemmas.{is_this, no_last_off}
 use Rattle.conda_spec.proofs.ClauseWords as words
@@ -84,7 +84,7 @@ beside_law (b ∷ bs) good fixed = by_word (is_equal_word (b ∷ bs)) refl
 
 -- What may follow a name, by the invariant of a specification.
 follows : (version build : Option (List ℕ)) → IfSome version (λ clause. (clause_fault clause ≡ None) × (map to_ascii_lowercase clause ≡ clause))
-    → IfSome build (IsFreeOf bars_build) → (IsSome build → IfSome version (λ clause. beside_build clause ≡ clause) × IsSome version) → CanFollow version build
+    → IfSome build (IsFreeWord bars_build) → (IsSome build → IfSome version (λ clause. beside_build clause ≡ clause) × IsSome version) → CanFollow version build
 unfolding CanFollow
 follows None None good free together = tt
 follows None (Some build) good free together = absurd (true≢false (sym ((together refl).1)))
@@ -175,7 +175,7 @@ some_more : (xs ys : List ℕ) → xs ≢ [] → xs ++ ys ≢ []
 some_more [] ys some = absurd (some refl)
 some_more (x ∷ xs) ys some = λ e. let none : length (x ∷ (xs ++ ys)) ≡ 0 = ap length e in absurd (omega (arith, none))
 
-begins : (channel : Option (List ℕ)) (name rest : List ℕ) → IfSome channel (IsFreeOf bars_channel) → AllOf is_name_char name → name ≢ [] → BeginsBare (channel_text channel ++ (name ++ rest))
+begins : (channel : Option (List ℕ)) (name rest : List ℕ) → IfSome channel (IsFreeWord bars_channel) → AllOf is_name_char name → name ≢ [] → BeginsBare (channel_text channel ++ (name ++ rest))
 begins None name rest free chars some = begins_with_word name rest (name_spaces name chars) some
 begins (Some channel) name rest free chars some =
     begins_with_word (channel ++ codes "::") (name ++ rest) (none_in_both is_space channel (codes "::") (fewer bars_channel is_space no_space_in_channel channel free.1) (refl, (refl, tt)))

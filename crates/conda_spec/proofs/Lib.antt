@@ -11,3 +11,5 @@ pub mod ItemLemmas
 pub mod ClauseWords
 pub mod EqualLemmas
 pub mod LawLemmas
+pub mod LowerLaws
+pub mod OnlyLemmas

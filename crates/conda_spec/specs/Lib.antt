@@ -4,3 +4,4 @@ pub mod Text
 pub mod Cuts
 pub mod Reading
 pub mod Good
+pub mod Grammar

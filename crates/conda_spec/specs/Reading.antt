@@ -14,7 +14,8 @@ use Rattle.conda_clause.specs.Kept.{is_joint, kept}
 use Rattle.conda_spec.specs.declared.given.Given.{Given}
 use Rattle.conda_spec.specs.declared.given.ItemKey.{ItemKey}
 use Rattle.conda_spec.specs.declared.given.ItemKey.TheVariants as keys
-use Rattle.conda_base.specs.Texts.{begins_with, cut_first, cut_last}
+use Rattle.conda_base.specs.Signs.{close_bracket, comma, double_quote, equals, open_bracket, quote, slash, space, star}
+use Rattle.conda_base.specs.Texts.{begins_with, cut_first, cut_last, ends_with}
 use Rattle.conda_spec.specs.Cuts.{cut_colons, without_last}
 use Rattle.conda_base.specs.Reads.{Read, ◌>>=◌, unless}
 use Rattle.conda_spec.specs.Parts.{Parts, bars_build, bars_channel, is_name_char, is_one_of}
@@ -42,18 +43,19 @@ unfoldable pub clause_at : (ℕ → ℕ) → ℕ → ℕ → List ℕ → SpecRe
 clause_at place start added text =
     unless (option_map (λ fault. (place (start + (fault.0 - added)), fault.1)) (clause_fault (map to_ascii_lowercase text))) (map to_ascii_lowercase text)
 
-abbrev pub ends_with_star : List ℕ → Bool
-ends_with_star text = is_some (without_last 42 text)
+-- "equal to V", where V stands between two `=`: V itself where it ends with a star, else `==V`
+abbrev pub equal_to : List ℕ → List ℕ
+equal_to v = if ends_with star v then v else codes "==" ++ v
 
--- "equal to V", where V stands between two `=`: V itself where it ends with a star, else `==V`, of which the signs are added
+-- the same at a place, where the signs of `==V` are added
 unfoldable pub equal_at : (ℕ → ℕ) → ℕ → List ℕ → SpecRead (List ℕ)
-equal_at place start v = if ends_with_star v then clause_at place start 0 v else clause_at place start 2 (codes "==" ++ v)
+equal_at place start v = if ends_with star v then clause_at place start 0 v else clause_at place start 2 (codes "==" ++ v)
 
 -- What follows a name. Places are those of the characters that stay.
 
 -- a version clause and a build
-abbrev pub Wanted : Type 0
-Wanted = Option (List ℕ) × Option (List ℕ)
+abbrev pub VersionAndBuild : Type 0
+VersionAndBuild = Option (List ℕ) × Option (List ℕ)
 
 -- a build, behind which no further word stands
 abbrev pub last_word : ℕ → (ℕ → ℕ) → List ℕ → Option (List ℕ × List ℕ) → SpecRead (List ℕ)
@@ -61,33 +63,33 @@ last_word start place text None = build_at (place start) text
 last_word start place text (Some cut) = build_at (place start) cut.0 >>= λ build. Err (place (start + length cut.0 + 1), Words)
 
 unfoldable pub build_word : (ℕ → ℕ) → ℕ → List ℕ → SpecRead (List ℕ)
-build_word place start text = last_word start place text (cut_first 32 text)
+build_word place start text = last_word start place text (cut_first space text)
 
 -- a version clause, and a build as a second word
-abbrev pub words_cut : (ℕ → ℕ) → List ℕ → Option (List ℕ × List ℕ) → SpecRead Wanted
+abbrev pub words_cut : (ℕ → ℕ) → List ℕ → Option (List ℕ × List ℕ) → SpecRead VersionAndBuild
 words_cut place text None = clause_at place 0 0 text >>= λ clause. Ok (Some clause, None)
 words_cut place text (Some cut) = do
   clause ← clause_at place 0 0 cut.0
   build ← build_word place (length cut.0 + 1) cut.1
   Ok (Some clause, Some build)
 
-unfoldable pub words_read : (ℕ → ℕ) → List ℕ → SpecRead Wanted
-words_read place text = words_cut place text (cut_first 32 text)
+unfoldable pub words_read : (ℕ → ℕ) → List ℕ → SpecRead VersionAndBuild
+words_read place text = words_cut place text (cut_first space text)
 
 -- one of the characters that a version between or behind signs `=` doesn't hold
 abbrev pub is_sign : ℕ → Bool
 is_sign b = is_one_of (codes ",|<>!~(") b
 
 abbrev pub is_sign_or_equals : ℕ → Bool
-is_sign_or_equals b = b == 61 || is_sign b
+is_sign_or_equals b = b == equals || is_sign b
 
 -- `=v`, where v holds no `=` and no other sign
 abbrev pub is_equal_word : List ℕ → Bool
 is_equal_word [] = false
-is_equal_word (b ∷ bs) = b == 61 && not (list_any is_sign_or_equals bs)
+is_equal_word (b ∷ bs) = b == equals && not (list_any is_sign_or_equals bs)
 
 -- What a space parts from the name: words, of which the first two are `=v=B` where they are `=v` and B.
-abbrev pub spaced_cut : (ℕ → ℕ) → List ℕ → Option (List ℕ × List ℕ) → SpecRead Wanted
+abbrev pub spaced_cut : (ℕ → ℕ) → List ℕ → Option (List ℕ × List ℕ) → SpecRead VersionAndBuild
 spaced_cut place text None = words_read place text
 spaced_cut place text (Some cut) =
     if is_equal_word cut.0 then
@@ -96,12 +98,12 @@ spaced_cut place text (Some cut) =
     Ok (Some clause, Some build))
     else words_read place text
 
-unfoldable pub spaced_read : (ℕ → ℕ) → List ℕ → SpecRead Wanted
-spaced_read place text = spaced_cut place text (cut_first 32 text)
+unfoldable pub spaced_read : (ℕ → ℕ) → List ℕ → SpecRead VersionAndBuild
+spaced_read place text = spaced_cut place text (cut_first space text)
 
 -- how many `=` a word that begins with `=` begins with, two at most
 abbrev pub lead_of : List ℕ → ℕ
-lead_of word = if begins_with 61 (drop 1 word) then 2 else 1
+lead_of word = if begins_with equals (drop 1 word) then 2 else 1
 
 -- the version of such a word: it ends at the next `=`
 abbrev pub before_equals : Option (List ℕ × List ℕ) → List ℕ → List ℕ
@@ -109,46 +111,46 @@ before_equals None text = text
 before_equals (Some cut) text = cut.0
 
 abbrev pub version_of : List ℕ → List ℕ
-version_of word = before_equals (cut_first 61 (drop (lead_of word) word)) (drop (lead_of word) word)
+version_of word = before_equals (cut_first equals (drop (lead_of word) word)) (drop (lead_of word) word)
 
 -- `=V`, `==V`, `=V=B` or `==V=B`
-abbrev pub joined_cut : (ℕ → ℕ) → List ℕ → ℕ → Option (List ℕ × List ℕ) → SpecRead Wanted
+abbrev pub joined_cut : (ℕ → ℕ) → List ℕ → ℕ → Option (List ℕ × List ℕ) → SpecRead VersionAndBuild
 joined_cut place word lead None = clause_at place 0 0 word >>= λ clause. Ok (Some clause, None)
 joined_cut place word lead (Some cut) = do
   clause ← if lead == 1 then equal_at place 1 cut.0 else clause_at place 0 0 (codes "==" ++ cut.0)
   build ← build_at (place (lead + length cut.0 + 1)) cut.1
   Ok (Some clause, Some build)
 
-unfoldable pub joined_read : (ℕ → ℕ) → List ℕ → SpecRead Wanted
-joined_read place word = joined_cut place word (lead_of word) (cut_first 61 (drop (lead_of word) word))
+unfoldable pub joined_read : (ℕ → ℕ) → List ℕ → SpecRead VersionAndBuild
+joined_read place word = joined_cut place word (lead_of word) (cut_first equals (drop (lead_of word) word))
 
 -- What begins with `=` directly behind the name: one such word, or words of a version clause that goes on behind its first test.
-abbrev pub equals_cut : (ℕ → ℕ) → List ℕ → Option (List ℕ × List ℕ) → SpecRead Wanted
+abbrev pub equals_cut : (ℕ → ℕ) → List ℕ → Option (List ℕ × List ℕ) → SpecRead VersionAndBuild
 equals_cut place text None = if list_any is_sign (version_of text) then words_read place text else joined_read place text
 equals_cut place text (Some cut) =
     if list_any is_sign (version_of cut.0) then words_read place text
     else (joined_read place cut.0 >>= λ wanted. Err (place (length cut.0 + 1), Words))
 
-unfoldable pub equals_read : (ℕ → ℕ) → List ℕ → SpecRead Wanted
-equals_read place text = equals_cut place text (cut_first 32 text)
+unfoldable pub equals_read : (ℕ → ℕ) → List ℕ → SpecRead VersionAndBuild
+equals_read place text = equals_cut place text (cut_first space text)
 
 -- a sign with which a version clause begins directly behind the name
 abbrev pub is_comparison : ℕ → Bool
 is_comparison b = is_one_of (codes "<>!~") b
 
 -- The characters that stay, and whether a space parts them from the name. A space before `,` or `|` doesn't.
-unfoldable pub wanted_read : (ℕ → ℕ) → Bool → List ℕ → SpecRead Wanted
+unfoldable pub wanted_read : (ℕ → ℕ) → Bool → List ℕ → SpecRead VersionAndBuild
 wanted_read place spaced [] = Ok (None, None)
 wanted_read place spaced (b ∷ bs) =
     if is_joint b then Err (place 0, Words)
     else if spaced then spaced_read place (b ∷ bs)
-    else if b == 61 then equals_read place (b ∷ bs)
+    else if b == equals then equals_read place (b ∷ bs)
     else if is_comparison b then words_read place (b ∷ bs)
     else Err (place 0, Words)
 
 -- what follows a name, from a place on
-unfoldable pub followed_read : ℕ → List ℕ → SpecRead Wanted
-followed_read at text = wanted_read (λ i. at + place_of text i) (begins_with 32 text) (kept text)
+unfoldable pub followed_read : ℕ → List ℕ → SpecRead VersionAndBuild
+followed_read at text = wanted_read (λ i. at + place_of text i) (begins_with space text) (kept text)
 
 -- What stands before the brackets.
 
@@ -164,7 +166,7 @@ nothing = record { channel = None; subdir = None; version = None; build = None; 
 abbrev pub Front : Type 0
 Front = List ℕ × Given
 
-abbrev pub with_wanted : Given → Wanted → Given
+abbrev pub with_wanted : Given → VersionAndBuild → Given
 with_wanted given wanted = record given { version = wanted.0; build = wanted.1 }
 
 -- a name and what follows it, from a place on
@@ -184,7 +186,7 @@ channel_cut text (Some cut) = do
   Ok (record nothing { channel = Some channel; subdir = Some subdir })
 
 unfoldable pub channel_read : List ℕ → SpecRead Given
-channel_read text = channel_cut text (cut_first 47 text)
+channel_read text = channel_cut text (cut_first slash text)
 
 abbrev pub front_cut : List ℕ → Option (List ℕ × List ℕ) → SpecRead Front
 front_cut text None = named_read nothing 0 text
@@ -197,27 +199,27 @@ front_read text = front_cut text (cut_colons text)
 
 -- a quote
 abbrev pub is_quote : ℕ → Bool
-is_quote b = b == 39 || b == 34
+is_quote b = b == quote || b == double_quote
 
 -- the quote in which the next character stands, if it does
 abbrev pub quote_behind : Option ℕ → ℕ → Option ℕ
 quote_behind None b = if is_quote b then Some b else None
-quote_behind (Some quote) b = if b == quote then None else Some quote
+quote_behind (Some mark) b = if b == mark then None else Some mark
 
 -- `,` in no quotes
 abbrev pub ends_item : Option ℕ → ℕ → Bool
-ends_item None b = b == 44
-ends_item (Some quote) b = false
+ends_item None b = b == comma
+ends_item (Some mark) b = false
 
 -- the place of the first `,` in no quotes, counted on from a place
 abbrev pub item_end : ℕ → Option ℕ → List ℕ → Option ℕ
-item_end at quote [] = None
-item_end at quote (b ∷ bs) = if ends_item quote b then Some at else item_end (at + 1) (quote_behind quote b) bs
+item_end at mark [] = None
+item_end at mark (b ∷ bs) = if ends_item mark b then Some at else item_end (at + 1) (quote_behind mark b) bs
 
 -- the items: the pieces at each `,` that stands in no quotes
 abbrev pub items_of : Option ℕ → List ℕ → List (List ℕ)
-items_of quote [] = [] ∷ []
-items_of quote (b ∷ bs) = if ends_item quote b then [] ∷ items_of None bs else onto_first b (items_of (quote_behind quote b) bs)
+items_of mark [] = [] ∷ []
+items_of mark (b ∷ bs) = if ends_item mark b then [] ∷ items_of None bs else onto_first b (items_of (quote_behind mark b) bs)
 
 abbrev pub key_of : List ℕ → Option ItemKey
 key_of text =
@@ -230,15 +232,15 @@ key_of text =
 
 -- no value without quotes holds it
 abbrev pub bars_bare : ℕ → Bool
-bars_bare b = is_quote b || b == 93
+bars_bare b = is_quote b || b == comma || b == close_bracket
 
--- a text that holds no such quote
+-- a text that holds no such mark
 abbrev pub without_quote : ℕ → List ℕ → Option (List ℕ)
-without_quote quote text = if holds quote text then None else Some text
+without_quote mark text = if holds mark text then None else Some text
 
 -- what stands in quotes, of which the first stands before the text
 abbrev pub quoted : ℕ → List ℕ → Option (List ℕ)
-quoted quote text = option_and_then (without_quote quote) (without_last quote text)
+quoted mark text = option_and_then (without_quote mark) (without_last mark text)
 
 -- A value as it is written from a place on: it and its place. It is bare, or stands in quotes and holds none of these.
 abbrev pub value_of : ℕ → List ℕ → Option (ℕ × List ℕ)
@@ -287,7 +289,7 @@ item_cut given at (Some cut) = item_key given at (key_of cut.0) (value_of (at + 
 
 -- an item, `key=value`, behind what is given before
 unfoldable pub item_read : Given → ℕ → List ℕ → SpecRead Given
-item_read given at item = item_cut given at (cut_first 61 item)
+item_read given at item = item_cut given at (cut_first equals item)
 
 -- items of which the first begins at a place
 unfoldable pub items_read : Given → ℕ → List (List ℕ) → SpecRead Given
@@ -298,7 +300,7 @@ items_read given at (item ∷ items) = item_read given at item >>= λ next. item
 
 -- what stands before the brackets, and what stands in them: they begin at the last `[` of a text that ends with `]`
 abbrev pub brackets_of : List ℕ → Option (List ℕ × List ℕ)
-brackets_of text = option_and_then (cut_last 91) (without_last 93 text)
+brackets_of text = option_and_then (cut_last open_bracket) (without_last close_bracket text)
 
 -- where a build is given, a version is too, in the form that it has beside a build
 abbrev pub version_beside : Option (List ℕ) → Option (List ℕ) → Option (List ℕ)

@@ -4,8 +4,8 @@ ghost use Rattle.conda_clause.specs.Kept as kept;
 ghost use Rattle.conda_base.specs.Texts.{begins_with, cut_first};
 ghost use Rattle.conda_base.specs.Reads.{Gives};
 ghost use Rattle.conda_clause.specs.Faults.{spec_fault_of};
-ghost use Rattle.conda_spec.specs.Good.{IsClause, IsWanted, stood};
-ghost use Rattle.conda_spec.specs.Parts.{IsFreeOf, bars_build};
+ghost use Rattle.conda_spec.specs.Good.{IsGoodClause, IsVersionAndBuild, stood};
+ghost use Rattle.conda_spec.specs.Parts.{IsFreeWord, bars_build};
 ghost use Rattle.conda_spec.specs.Reading.{build_word, clause_at, equal_at, equals_read, followed_read, is_comparison, is_equal_word, is_sign, is_sign_or_equals, joined_read, lead_of, spaced_read, version_of, wanted_read, words_read};
 
 use crate::cuts::{cut_first, begins_with, behind};
@@ -17,14 +17,14 @@ use conda_clause::{SpecErr, SpecWhy, VersionClause};
 use std::alloc::Global;
 
 /// A version clause and a build, where they are given.
-pub type Wanted = (Option<VersionClause>, Option<Text>);
+pub type VersionAndBuild = (Option<VersionClause>, Option<Text>);
 
 // A build, behind which no further word stands.
 #[tactic(auto, unfolding(crate::specs::Reading::build_word))]
 fn build_word(alloc: Global, places: &Places, start: usize, text: &str) -> Result<Text, SpecErr>
     requires { start + length text.now < 18446744073709551616 }
     ensures read { Gives spec_fault_of result (build_word (stood places.now) start text.now) }
-    ensures good { IfOk result (IsFreeOf bars_build) }
+    ensures good { IfOk result (IsFreeWord bars_build) }
 {
     match cut_first(text, ' ') {
         None => build_at(alloc, places.of(start), text),
@@ -37,9 +37,9 @@ fn build_word(alloc: Global, places: &Places, start: usize, text: &str) -> Resul
 
 // A version clause, and a build as a second word.
 #[tactic(auto, unfolding(crate::specs::Reading::words_read))]
-fn words(alloc: Global, places: &Places, text: &str) -> Result<Wanted, SpecErr>
+fn words(alloc: Global, places: &Places, text: &str) -> Result<VersionAndBuild, SpecErr>
     ensures read { Gives spec_fault_of result (words_read (stood places.now) text.now) }
-    ensures good { IfOk result IsWanted }
+    ensures good { IfOk result IsVersionAndBuild }
 {
     match cut_first(text, ' ') {
         None => Ok((Some(clause_at(alloc, places, 0, 0, text)?), None)),
@@ -93,9 +93,9 @@ fn is_equal_word(text: &[u8]) -> bool
 
 // What a space parts from the name.
 #[tactic(auto, unfolding(crate::specs::Reading::spaced_read))]
-fn spaced(alloc: Global, places: &Places, text: &str) -> Result<Wanted, SpecErr>
+fn spaced(alloc: Global, places: &Places, text: &str) -> Result<VersionAndBuild, SpecErr>
     ensures read { Gives spec_fault_of result (spaced_read (stood places.now) text.now) }
-    ensures good { IfOk result IsWanted }
+    ensures good { IfOk result IsVersionAndBuild }
 {
     match cut_first(text, ' ') {
         None => words(alloc, places, text),
@@ -146,7 +146,7 @@ fn joined_clause(
     version: &str,
 ) -> Result<VersionClause, SpecErr>
     ensures read { Gives spec_fault_of result (if lead == 1 then equal_at (stood places.now) 1 version.now else clause_at (stood places.now) 0 0 (codes "==" ++ version.now)) }
-    ensures good { IfOk result IsClause }
+    ensures good { IfOk result IsGoodClause }
 {
     if lead == 1 {
         equal_at(alloc, places, 1, version)
@@ -158,10 +158,10 @@ fn joined_clause(
 
 // `=V`, `==V`, `=V=B` or `==V=B`.
 #[tactic(auto, unfolding(crate::specs::Reading::joined_read))]
-fn joined(alloc: Global, places: &Places, word: &str) -> Result<Wanted, SpecErr>
+fn joined(alloc: Global, places: &Places, word: &str) -> Result<VersionAndBuild, SpecErr>
     requires { begins_with 61 word.now ≡ true }
     ensures read { Gives spec_fault_of result (joined_read (stood places.now) word.now) }
-    ensures good { IfOk result IsWanted }
+    ensures good { IfOk result IsVersionAndBuild }
 {
     let (lead, rest) = behind_lead(word);
     match cut_first(rest, '=') {
@@ -176,10 +176,10 @@ fn joined(alloc: Global, places: &Places, word: &str) -> Result<Wanted, SpecErr>
 
 // What begins with `=` directly behind the name.
 #[tactic(auto, unfolding(crate::specs::Reading::equals_read))]
-fn equals(alloc: Global, places: &Places, text: &str) -> Result<Wanted, SpecErr>
+fn equals(alloc: Global, places: &Places, text: &str) -> Result<VersionAndBuild, SpecErr>
     requires { begins_with 61 text.now ≡ true }
     ensures read { Gives spec_fault_of result (equals_read (stood places.now) text.now) }
-    ensures good { IfOk result IsWanted }
+    ensures good { IfOk result IsVersionAndBuild }
 {
     match cut_first(text, ' ') {
         None => {
@@ -202,9 +202,9 @@ fn equals(alloc: Global, places: &Places, text: &str) -> Result<Wanted, SpecErr>
 
 // The characters that stay of what follows a name.
 #[tactic(auto, unfolding(crate::specs::Reading::wanted_read))]
-fn wanted(alloc: Global, places: &Places, spaced_off: bool, text: &str) -> Result<Wanted, SpecErr>
+fn wanted(alloc: Global, places: &Places, spaced_off: bool, text: &str) -> Result<VersionAndBuild, SpecErr>
     ensures read { Gives spec_fault_of result (wanted_read (stood places.now) spaced_off text.now) }
-    ensures good { IfOk result IsWanted }
+    ensures good { IfOk result IsVersionAndBuild }
 {
     match text.as_bytes() {
         [] => Ok((None, None)),
@@ -226,10 +226,10 @@ fn wanted(alloc: Global, places: &Places, spaced_off: bool, text: &str) -> Resul
 
 /// What follows a name, from a place on.
 #[tactic(auto, unfolding(crate::specs::Reading::followed_read))]
-pub fn followed(alloc: Global, at: usize, text: &str) -> Result<Wanted, SpecErr>
+pub fn followed(alloc: Global, at: usize, text: &str) -> Result<VersionAndBuild, SpecErr>
     requires { at + length text.now < 18446744073709551616 }
     ensures read { Gives spec_fault_of result (followed_read at text.now) }
-    ensures good { IfOk result IsWanted }
+    ensures good { IfOk result IsVersionAndBuild }
 {
     let stayed = stay(alloc, at, text)?;
     wanted(

@@ -4,7 +4,7 @@ ghost use Rattle.std.specs.Option.{option_map};
 ghost use Rattle.conda_version.specs.Text.{holds};
 ghost use Rattle.conda_base.specs.Reads.{Gives};
 ghost use Rattle.conda_clause.specs.Faults.{spec_fault_of};
-ghost use Rattle.conda_spec.specs.Good.{IsClause, IsGiven};
+ghost use Rattle.conda_spec.specs.Good.{IsGoodClause, IsGiven};
 ghost use Rattle.conda_spec.specs.Reading as reading;
 ghost use Rattle.conda_spec.specs.Reading.{bars_bare, clause_value, has_key, is_quote, item_end, item_read, items_of, items_read, key_of, number_or, put, quote_behind, short_number, value_of};
 
@@ -88,7 +88,7 @@ fn holds(b: u8, text: &[u8]) -> bool
 fn holds_barred(text: &[u8]) -> bool
     ensures { result ≡ list_any bars_bare text.now }
 {
-    text.iter().any(|b| is_quote(*b) || *b == b']')
+    text.iter().any(|b| is_quote(*b) || *b == b',' || *b == b']')
 }
 
 // A value in quotes, of which the first is known.
@@ -163,7 +163,7 @@ fn short_number(text: &[u8]) -> Option<u64>
 fn clause_value(alloc: Global, at: usize, text: &str) -> Result<VersionClause, SpecErr>
     requires { at + length text.now < 18446744073709551616 }
     ensures read { Gives spec_fault_of result (clause_value at text.now) }
-    ensures good { IfOk result IsClause }
+    ensures good { IfOk result IsGoodClause }
 {
     let stayed = stay(alloc, at, text)?;
     clause_at(alloc, &stayed.places, 0, 0, stayed.text.as_str())

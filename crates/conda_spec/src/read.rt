@@ -3,7 +3,7 @@ ghost use Rattle.std.specs.Option.{option_map};
 ghost use Rattle.conda_clause.specs.Clause.{beside_build};
 ghost use Rattle.conda_base.specs.Reads.{Gives};
 ghost use Rattle.conda_clause.specs.Faults.{spec_fault_of};
-ghost use Rattle.conda_spec.specs.Good.{IsClause, IsFront, IsGiven};
+ghost use Rattle.conda_spec.specs.Good.{IsGoodClause, IsFront, IsGiven};
 ghost use Rattle.conda_spec.specs.Parts.{IsSpec};
 ghost use Rattle.conda_spec.specs.Reading.{brackets_of, parts_of, spec_read, version_beside};
 
@@ -30,9 +30,9 @@ fn version_beside(
     build: &Option<Text>,
     version: Option<VersionClause>,
 ) -> Result<Option<VersionClause>, AllocError>
-    requires { IfSome version IsClause }
+    requires { IfSome version IsGoodClause }
     ensures value { IfOk result (λ v. v ≡ version_beside build.now version) }
-    ensures good { IfOk result (λ v. IfSome v IsClause) }
+    ensures good { IfOk result (λ v. IfSome v IsGoodClause) }
     ensures together { IfOk result (λ v. IsSome build.now → IfSome v (λ clause. beside_build clause ≡ clause) × IsSome v) }
 {
     match (build, version) {

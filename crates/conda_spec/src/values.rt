@@ -1,12 +1,13 @@
 ghost use Rattle.std.specs.Prelude.{◌≡◌, ◌==◌, ◌++◌, ◌<◌, IfOk, codes, nat_lt, string_bytes, true};
 ghost use Rattle.std.specs.List.{list_any};
+ghost use Rattle.conda_base.specs.Signs.{star};
+ghost use Rattle.conda_base.specs.Texts.{ends_with};
 ghost use Rattle.conda_base.specs.Reads.{Gives};
 ghost use Rattle.conda_clause.specs.Faults.{spec_fault_of};
-ghost use Rattle.conda_spec.specs.Good.{IsClause, stood};
-ghost use Rattle.conda_spec.specs.Parts.{IsFreeOf, bars_build, bars_channel, is_one_of};
-ghost use Rattle.conda_spec.specs.Reading.{build_at, channel_at, clause_at, ends_with_star, equal_at, is_free};
+ghost use Rattle.conda_spec.specs.Good.{IsGoodClause, stood};
+ghost use Rattle.conda_spec.specs.Parts.{IsFreeWord, bars_build, bars_channel, is_one_of};
+ghost use Rattle.conda_spec.specs.Reading.{build_at, channel_at, clause_at, equal_at, is_free};
 
-use crate::cuts::without_last;
 use crate::places::Places;
 use conda_base::Text;
 use conda_clause::{SpecErr, SpecWhy, VersionClause};
@@ -45,7 +46,7 @@ fn holds_barred_by_channel(text: &[u8]) -> bool
 
 fn is_channel(text: &[u8]) -> bool
     ensures value { result ≡ is_free bars_channel text.now }
-    ensures good { result ≡ true → IsFreeOf bars_channel text.now }
+    ensures good { result ≡ true → IsFreeWord bars_channel text.now }
 {
     0 < text.len() && !holds_barred_by_channel(text)
 }
@@ -58,7 +59,7 @@ fn holds_barred_by_build(text: &[u8]) -> bool
 
 fn is_build(text: &[u8]) -> bool
     ensures value { result ≡ is_free bars_build text.now }
-    ensures good { result ≡ true → IsFreeOf bars_build text.now }
+    ensures good { result ≡ true → IsFreeWord bars_build text.now }
 {
     0 < text.len() && !holds_barred_by_build(text)
 }
@@ -67,7 +68,7 @@ fn is_build(text: &[u8]) -> bool
 #[tactic(auto, unfolding(crate::specs::Reading::channel_at))]
 pub fn channel_at(alloc: Global, at: usize, text: &str) -> Result<Text, SpecErr>
     ensures read { Gives spec_fault_of result (channel_at at text.now) }
-    ensures good { IfOk result (IsFreeOf bars_channel) }
+    ensures good { IfOk result (IsFreeWord bars_channel) }
 {
     if !is_channel(text.as_bytes()) {
         return Err(fault(at, SpecWhy::Channel));
@@ -78,7 +79,7 @@ pub fn channel_at(alloc: Global, at: usize, text: &str) -> Result<Text, SpecErr>
 #[tactic(auto, unfolding(crate::specs::Reading::build_at))]
 pub fn build_at(alloc: Global, at: usize, text: &str) -> Result<Text, SpecErr>
     ensures read { Gives spec_fault_of result (build_at at text.now) }
-    ensures good { IfOk result (IsFreeOf bars_build) }
+    ensures good { IfOk result (IsFreeWord bars_build) }
 {
     if !is_build(text.as_bytes()) {
         return Err(fault(at, SpecWhy::Build));
@@ -96,7 +97,7 @@ pub fn clause_at(
     text: &str,
 ) -> Result<VersionClause, SpecErr>
     ensures read { Gives spec_fault_of result (clause_at (stood places.now) start added text.now) }
-    ensures good { IfOk result IsClause }
+    ensures good { IfOk result IsGoodClause }
 {
     match VersionClause::of_kept(alloc, text) {
         Ok(clause) => Ok(clause),
@@ -109,9 +110,12 @@ pub fn clause_at(
 }
 
 fn ends_with_star(text: &str) -> bool
-    ensures { result ≡ ends_with_star text.now }
+    ensures { result ≡ ends_with star text.now }
 {
-    without_last(text, '*').is_some()
+    match text.as_bytes().last() {
+        Some(b) => *b == b'*',
+        None => false,
+    }
 }
 
 /// "Equal to V": V itself where it ends with a star, else `==V`.
@@ -123,7 +127,7 @@ pub fn equal_at(
     version: &str,
 ) -> Result<VersionClause, SpecErr>
     ensures read { Gives spec_fault_of result (equal_at (stood places.now) start version.now) }
-    ensures good { IfOk result IsClause }
+    ensures good { IfOk result IsGoodClause }
 {
     if ends_with_star(version) {
         return clause_at(alloc, places, start, 0, version);

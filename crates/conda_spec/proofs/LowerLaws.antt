@@ -1,0 +1,16 @@
+-- The laws of the crates below, as lemmas cite them.
+use Rattle.std.proofs.Common.{◌≡◌, ◌↔◌, ◌<◌, ◌==◌, ℕ, true, false, length, List, ◌∷◌, ◌++◌, Option, Some, None}
+use Rattle.std.specs.List.{list_all}
+use Rattle.conda_base.specs.Texts.{IsFreeOf, cut_first, cut_last}
+use Rattle.conda_clause.specs.Clause.{clause_fault, is_clause_char}
+use Rattle.conda_clause.specs.Tests.{ends_with}
+
+pub record Laws : Type 0 where
+  pub first : (mark : ℕ) (text before behind : List ℕ) → (cut_first mark text ≡ Some (before, behind)) ↔ ((text ≡ before ++ mark ∷ behind) × IsFreeOf mark before)
+  pub last : (mark : ℕ) (text before behind : List ℕ) → (cut_last mark text ≡ Some (before, behind)) ↔ ((text ≡ before ++ mark ∷ behind) × IsFreeOf mark behind)
+  pub no_first : (mark : ℕ) (text : List ℕ) → (cut_first mark text ≡ None) ↔ IsFreeOf mark text
+  pub no_last : (mark : ℕ) (text : List ℕ) → (cut_last mark text ≡ None) ↔ IsFreeOf mark text
+  pub some : (text : List ℕ) → clause_fault text ≡ None → 0 < length text
+  pub chars : (text : List ℕ) → clause_fault text ≡ None → list_all is_clause_char text ≡ true
+  pub front : (text : List ℕ) → clause_fault text ≡ None → (bs : List ℕ) → (text ≡ 44 ∷ bs → ⊥) × (text ≡ 124 ∷ bs → ⊥)
+  pub back : (text : List ℕ) → clause_fault text ≡ None → (ends_with 44 text ≡ false) × (ends_with 124 text ≡ false) × (ends_with 60 text ≡ false) × (ends_with 62 text ≡ false) × (ends_with 61 text ≡ false)

@@ -1,0 +1,18 @@
+use Rattle.conda_spec.proofs.LowerLaws.{Laws}
+use Rattle.conda_spec.proofs.OnlyLemmas.{spec_only}
+use Rattle.conda_spec.proofs.laws.grammar_laws.Goals as goal
+
+pub returns-clause-only : goal.returns-clause-only
+returns-clause-only c = spec_only (record {
+  first = c.cut_laws.ensures.first;
+  last = c.cut_laws.ensures.last;
+  no_first = c.cut_laws.ensures.no_first;
+  no_last = c.cut_laws.ensures.no_last;
+  some = c.clause_laws.ensures.some;
+  chars = c.clause_laws.ensures.chars;
+  front = c.clause_laws.ensures.front;
+  back = c.clause_laws.ensures.back;
+})
+
+pub returns-clause-all : goal.returns-clause-all
+returns-clause-all c = ?
