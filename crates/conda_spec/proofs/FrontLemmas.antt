@@ -125,7 +125,7 @@ unfolding spaced_read
 spaced_two place clause build h other k =
     ap (spaced_cut place (clause ++ (32 ∷ build))) (first_cut 32 clause build (clause_spaces clause h)) ∙ rw other (words_of_two place clause build h k)
 
-wanted_spaced : (place : ℕ → ℕ) (text : List ℕ) (b : ℕ) (bs : List ℕ) → text ≡ b ∷ bs → is_joint b ≡ false → wanted_read place true text ≡ spaced_read place text
+pub wanted_spaced : (place : ℕ → ℕ) (text : List ℕ) (b : ℕ) (bs : List ℕ) → text ≡ b ∷ bs → is_joint b ≡ false → wanted_read place true text ≡ spaced_read place text
 unfolding wanted_read
 wanted_spaced place text b bs is h = subst (λ t. wanted_read place true t ≡ spaced_read place t) (sym is) (rw h refl)
 

@@ -13,3 +13,4 @@ pub mod EqualLemmas
 pub mod LawLemmas
 pub mod LowerLaws
 pub mod OnlyLemmas
+pub mod GivesLemmas

@@ -136,10 +136,10 @@ words_only place text (Some cut) r at h =
 -- ---- behind a space
 
 -- the word isn't `=v`
-IsOtherWord : List ℕ → Type 0
+pub IsOtherWord : List ℕ → Type 0
 IsOtherWord word = (v : List ℕ) → NoneOf is_sign_or_equals v → word ≢ equals ∷ v
 
-none_any : (p : ℕ → Bool) (xs : List ℕ) → NoneOf p xs → list_any p xs ≡ false
+pub none_any : (p : ℕ → Bool) (xs : List ℕ) → NoneOf p xs → list_any p xs ≡ false
 none_any p [] h = refl
 none_any p (x ∷ xs) h = rw (h.0) (none_any p xs h.1)
 
@@ -158,7 +158,7 @@ other_word word h v free e =
     true≢false (sym yes ∙ h)
 
 -- a word `=v`
-equal_word : (word : List ℕ) → is_equal_word word ≡ true → (word ≡ equals ∷ drop 1 word) × NoneOf is_sign_or_equals (drop 1 word)
+pub equal_word : (word : List ℕ) → is_equal_word word ≡ true → (word ≡ equals ∷ drop 1 word) × NoneOf is_sign_or_equals (drop 1 word)
 equal_word [] h = absurd (true≢false (sym h))
 equal_word (b ∷ bs) h = by (b == equals) refl (list_any is_sign_or_equals bs) refl h
   where
@@ -222,7 +222,7 @@ plain_all : (v : List ℕ) → IsFreeOf equals v → NoneOf is_sign v → NoneOf
 plain_all [] h k = tt
 plain_all (b ∷ bs) h k = (rw (h.0) (k.0), plain_all bs h.1 k.1)
 
-front_free : (p : ℕ → Bool) (xs ys : List ℕ) → NoneOf p (xs ++ ys) → NoneOf p xs
+pub front_free : (p : ℕ → Bool) (xs ys : List ℕ) → NoneOf p (xs ++ ys) → NoneOf p xs
 front_free p [] ys h = tt
 front_free p (x ∷ xs) ys h = (h.0, front_free p xs ys h.1)
 

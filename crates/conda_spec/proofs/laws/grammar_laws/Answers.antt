@@ -1,5 +1,6 @@
 use Rattle.conda_spec.proofs.LowerLaws.{Laws}
 use Rattle.conda_spec.proofs.OnlyLemmas.{spec_only}
+use Rattle.conda_spec.proofs.GivesLemmas.{wanted_gives}
 use Rattle.conda_spec.proofs.laws.grammar_laws.Goals as goal
 
 pub returns-clause-only : goal.returns-clause-only
