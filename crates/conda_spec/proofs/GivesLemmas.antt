@@ -35,9 +35,9 @@ use Rattle.conda_spec.specs.Grammar.IsWords.{alone, with_build}
 use Rattle.conda_spec.specs.Parts.{IsFreeWord, NoneOf, Parts, bars_build, bars_channel}
 use Rattle.conda_spec.specs.Reading.{Front, SpecRead, VersionAndBuild, bars_bare, before_equals, ends_item, quote_behind, brackets_of, build_at, build_word, channel_at, channel_cut, channel_read, clause_at, clause_value, ends_name, equal_at, equal_to, equals_cut, equals_read, followed_read, front_cut, front_read, has_key, is_comparison, is_equal_word, is_free, is_quote, is_sign, is_sign_or_equals, item_cut, item_key, item_read, items_of, items_read, joined_cut, joined_read, key_of, last_word, lead_of, named_read, nothing, number_or, parts_of, put, quoted, short_number, spaced_cut, spaced_read, spec_cut, spec_read, value_of, version_of, wanted_read, with_wanted, words_cut, words_read, without_quote}
 use Rattle.conda_spec.proofs.LowerLaws.{Laws}
-use Rattle.conda_spec.proofs.OnlyLemmas.{IsOtherWord, equal_word, front_free, none_any}
+use Rattle.conda_spec.proofs.OnlyLemmas.{any_none, equal_word, last_some, none_any}
 use Rattle.conda_spec.proofs.PieceLemmas.{fewer, first_place, no_place, none_in_both}
-use Rattle.conda_spec.proofs.SeamLemmas.{last_off}
+use Rattle.conda_spec.proofs.SeamLemmas.{colons_cut, last_off}
 use Rattle.conda_spec.proofs.FrontLemmas.{build_reads, channel_reads, wanted_spaced}
 
 -- ---- version clauses and builds
@@ -316,7 +316,7 @@ equal_build_gives l place v clause build p w k =
     (ap (λ (r : SpecRead (List ℕ)). r >>= λ c. build_at (place (2 + length v + 1)) build >>= λ b. Ok (Some c, Some b)) (clause_gives place 0 0 (codes "==" ++ v) clause w)
     ∙ ap (λ (r : SpecRead (List ℕ)). r >>= λ b. Ok (Some clause, Some b)) (build_reads (place (2 + length v + 1)) build k)))
 
-pub wanted_gives : (l : Laws) (place : ℕ → ℕ) (apart : Bool) (text : List ℕ) (version build : Option (List ℕ)) → Follows apart text version build → wanted_read place apart text ≡ Ok (version, build)
+wanted_gives : (l : Laws) (place : ℕ → ℕ) (apart : Bool) (text : List ℕ) (version build : Option (List ℕ)) → Follows apart text version build → wanted_read place apart text ≡ Ok (version, build)
 unfolding wanted_read
 wanted_gives l place apart text version build (end k) = refl
 wanted_gives l place apart text version build (starts v clause p w) = starts_gives l place v clause p w
@@ -326,3 +326,245 @@ wanted_gives l place apart text version build (equal_build v clause b p w k) = e
 wanted_gives l place apart text version build (spaced_equal v clause b p w k) = spaced_equal_gives l place v clause b p w k
 wanted_gives l place apart text version build (spaced word t v b w other) = spaced_gives l place word text version build w other
 wanted_gives l place apart text version build (signs word t v b w begins) = signs_give l place word text version build w begins
+
+-- ---- the name and the channel
+
+followed_gives : (l : Laws) (at : ℕ) (text : List ℕ) (version build : Option (List ℕ)) → Follows (begins_with space text) (kept text) version build → followed_read at text ≡ Ok (version, build)
+unfolding followed_read
+followed_gives l at text version build h = wanted_gives l (λ i. at + place_of text i) (begins_with space text) (kept text) version build h
+
+name_end : (written rest : List ℕ) → NoneOf ends_name written → ends_here rest ≡ true → position_or_len ends_name (written ++ rest) ≡ length written
+name_end written [] h e = ap (position_or_len ends_name) (append-nil written) ∙ no_place ends_name written h
+name_end written (b ∷ bs) h e = first_place ends_name written b bs h e
+
+some_length : (text : List ℕ) → text ≢ [] → (length text == 0) ≡ false
+some_length [] some = absurd (some refl)
+some_length (b ∷ bs) some = grind (arith, nat_tests)
+
+named_gives : (l : Laws) (given : Given) (at : ℕ) (text name : List ℕ) (version build : Option (List ℕ)) → IsNamed text name version build
+    → named_read given at text ≡ Ok (name, with_wanted given (version, build))
+unfolding named_read
+named_gives l given at text name version build (named written rest v b some free ends follows) =
+    let fault : ℕ × SpecWhy = (at, Name) in
+    let whole : List ℕ = written ++ rest in
+    ap (λ (n : ℕ). cond (n == 0) (Err fault) (followed_read (at + n) (drop n whole) >>= λ w. Ok (map to_ascii_lowercase (take n whole), with_wanted given w))) (name_end written rest free ends)
+    ∙ rw (some_length written some, drop-append_seam written rest, take-append_seam written rest, followed_gives l (at + length written) rest version build follows) refl
+
+-- no `::` stands in the text
+colons_absent : (text : List ℕ) → ((before rest : List ℕ) → text ≢ before ++ (codes "::" ++ rest)) → cut_colons text ≡ None
+colons_absent [] h = refl
+colons_absent (b ∷ bs) h = by (b == colon && begins_with colon bs) refl (colons_absent bs (λ before rest e. h (b ∷ before) rest (ap (λ t. b ∷ t) e)))
+  where
+    begins : (bs : List ℕ) → begins_with colon bs ≡ true → bs ≡ colon ∷ drop 1 bs
+    begins [] e = absurd (true≢false (sym e))
+    begins (c ∷ cs) e = ap (λ d. d ∷ cs) (eqb-true c colon e)
+
+    by : (k : Bool) → (b == colon && begins_with colon bs) ≡ k → cut_colons bs ≡ None → cond k (Some ([], drop 1 bs)) (option_map (in_front b) (cut_colons bs)) ≡ None
+    by true e more =
+        let here : b ≡ colon = eqb-true b colon (first_so (b == colon) (begins_with colon bs) e) in
+        let next : bs ≡ colon ∷ drop 1 bs = begins bs (second_so (b == colon) (begins_with colon bs) e) in
+        absurd (h [] (drop 1 bs) (ap (λ c. c ∷ bs) here ∙ ap (λ t. colon ∷ t) next))
+    by false e more = ap (option_map (in_front b)) more
+
+no_slash : (b : ℕ) → bars_channel b ≡ false → is_byte slash b ≡ false
+no_slash b h = grind (arith, nat_tests)
+
+no_colon : (b : ℕ) → bars_channel b ≡ false → is_byte colon b ≡ false
+no_colon b h = grind (arith, nat_tests)
+
+channel_gives : (l : Laws) (channel : List ℕ) → IsFreeWord bars_channel channel → channel_read channel ≡ Ok (record nothing { channel = Some channel })
+unfolding channel_read
+channel_gives l channel h =
+    ap (channel_cut channel) ((l.no_first slash channel).1 (fewer bars_channel (is_byte slash) no_slash channel h.1))
+    ∙ ap (λ (r : SpecRead (List ℕ)). r >>= λ c. Ok (record nothing { channel = Some c })) (channel_reads 0 channel h)
+
+subdir_gives : (l : Laws) (channel subdir : List ℕ) → IsFreeWord bars_channel channel → IsFreeWord bars_channel subdir
+    → channel_read (channel ++ slash ∷ subdir) ≡ Ok (record nothing { channel = Some channel; subdir = Some subdir })
+unfolding channel_read
+subdir_gives l channel subdir h k =
+    ap (channel_cut (channel ++ slash ∷ subdir)) ((l.first slash (channel ++ slash ∷ subdir) channel subdir).1 (refl, fewer bars_channel (is_byte slash) no_slash channel h.1))
+    ∙ ap (λ (r : SpecRead (List ℕ)). r >>= λ c. channel_at 0 subdir >>= λ s. Ok (record nothing { channel = Some c; subdir = Some s })) (channel_reads 0 channel h)
+    ∙ ap (λ (r : SpecRead (List ℕ)). r >>= λ s. Ok (record nothing { channel = Some channel; subdir = Some s })) (channel_reads 0 subdir k)
+
+front_gives : (l : Laws) (text : List ℕ) (found : Front) → IsFront text found → front_read text ≡ Ok found
+unfolding front_read
+front_gives l text found (front_alone t name version build none is) =
+    ap (front_cut t) (colons_absent t none) ∙ named_gives l nothing 0 t name version build is
+front_gives l text found (in_channel channel t name version build free is) =
+    ap (front_cut (channel ++ (codes "::" ++ t))) (colons_cut channel t (fewer bars_channel (is_byte colon) no_colon channel free.1))
+    ∙ ap (λ (r : SpecRead Given). r >>= λ given. named_read given (length channel + 2) t) (channel_gives l channel free)
+    ∙ named_gives l (record nothing { channel = Some channel }) (length channel + 2) t name version build is
+front_gives l text found (in_subdir channel subdir t name version build free also is) =
+    let before : List ℕ = channel ++ slash ∷ subdir in
+    let bare : NoneOf (is_byte colon) before =
+    none_in_both (is_byte colon) channel (slash ∷ subdir) (fewer bars_channel (is_byte colon) no_colon channel free.1) (refl, fewer bars_channel (is_byte colon) no_colon subdir also.1)
+    in
+    ap (front_cut (before ++ (codes "::" ++ t))) (colons_cut before t bare)
+    ∙ ap (λ (r : SpecRead Given). r >>= λ given. named_read given (length before + 2) t) (subdir_gives l channel subdir free also)
+    ∙ named_gives l (record nothing { channel = Some channel; subdir = Some subdir }) (length before + 2) t name version build is
+
+-- ---- the brackets
+
+value_gives : (at : ℕ) (written value : List ℕ) → IsValue written value → (place : ℕ) × (value_of at written ≡ Some (place, value))
+value_gives at written value (bare v h) = (at, by v h)
+  where
+    by : (v : List ℕ) → NoneOf bars_bare v → value_of at v ≡ Some (at, v)
+    by [] h = refl
+    by (x ∷ xs) h =
+        let quote : is_quote x ≡ false = bare_quote x (h.0) in
+        let whole : Option (ℕ × List ℕ) = Some (at, x ∷ xs) in
+        let inside : Option (ℕ × List ℕ) = option_map (λ text. (at + 1, text)) (quoted x xs) in
+        ap (λ (k : Bool). cond k inside (cond (list_any bars_bare (x ∷ xs)) None whole)) quote
+        ∙ ap (λ (barred : Bool). cond barred None whole) (none_any bars_bare (x ∷ xs) h)
+      where
+        bare_quote : (b : ℕ) → bars_bare b ≡ false → is_quote b ≡ false
+        bare_quote b h = grind (arith, nat_tests)
+value_gives at written value (in_quotes mark v q h) = (at + 1, read)
+  where
+    text : List ℕ
+    text = mark ∷ (v ++ mark ∷ [])
+
+    read : value_of at (mark ∷ (v ++ mark ∷ [])) ≡ Some (at + 1, v)
+    read =
+        let bars : Option (ℕ × List ℕ) = cond (list_any bars_bare text) None (Some (at, text)) in
+        ap (λ (k : Bool). cond k (option_map (λ t. (at + 1, t)) (quoted mark (v ++ mark ∷ []))) bars) q
+        ∙ ap (λ (o : Option (List ℕ)). option_map (λ t. (at + 1, t)) (option_and_then (without_quote mark) o)) (last_off mark v)
+        ∙ ap (λ (k : Bool). option_map (λ t. (at + 1, t)) (cond k None (Some v))) (none_any (is_byte mark) v h)
+
+key_gives : (given behind : Given) (at : ℕ) (key : ItemKey) (place : ℕ) (written value : List ℕ) (found : Option (ℕ × List ℕ)) → found ≡ Some (place, value) → has_key given key ≡ false
+    → put given key at (place, value) ≡ Ok behind → item_key given at (Some key) found ≡ Ok behind
+key_gives given behind at key place written value found e new h =
+    let fault : ℕ × SpecWhy = (at, Key) in
+    ap (item_key given at (Some key)) e ∙ ap (λ k. cond k (Err fault) (put given key at (place, value))) new ∙ h
+
+item_gives : (given behind : Given) (at : ℕ) (item : List ℕ) → IsItem given item behind → item_read given at item ≡ Ok behind
+unfolding item_read put clause_value
+item_gives given behind at item (item_version g written value clause new is w) =
+    let v = value_gives (at + 7 + 1) written value is in
+    key_gives g behind at keys.Version v.0 written value (value_of (at + 7 + 1) written) v.1 (ap is_some new)
+    (ap (λ (r : SpecRead (List ℕ)). r >>= λ x. Ok (record g { version = Some x })) (clause_gives (λ i. v.0 + place_of value i) 0 0 (kept value) clause w))
+item_gives given behind at item (item_build g written value new is free) =
+    let v = value_gives (at + 5 + 1) written value is in
+    key_gives g behind at keys.Build v.0 written value (value_of (at + 5 + 1) written) v.1 (ap is_some new)
+    (ap (λ (r : SpecRead (List ℕ)). r >>= λ x. Ok (record g { build = Some x })) (build_reads v.0 value free))
+item_gives given behind at item (item_number g written value number new is n) =
+    let v = value_gives (at + 12 + 1) written value is in
+    key_gives g behind at keys.BuildNumber v.0 written value (value_of (at + 12 + 1) written) v.1 (ap is_some new)
+    (ap (λ (o : Option ℕ). number_or at o >>= λ x. Ok (record g { number = Some x })) n)
+item_gives given behind at item (item_channel g written value new is free) =
+    let v = value_gives (at + 7 + 1) written value is in
+    key_gives g behind at keys.Channel v.0 written value (value_of (at + 7 + 1) written) v.1 (ap is_some new)
+    (ap (λ (r : SpecRead (List ℕ)). r >>= λ x. Ok (record g { channel = Some x })) (channel_reads v.0 value free))
+item_gives given behind at item (item_subdir g written value new is free) =
+    let v = value_gives (at + 6 + 1) written value is in
+    key_gives g behind at keys.Subdir v.0 written value (value_of (at + 6 + 1) written) v.1 (ap is_some new)
+    (ap (λ (r : SpecRead (List ℕ)). r >>= λ x. Ok (record g { subdir = Some x })) (channel_reads v.0 value free))
+
+-- an item in front of others: its characters go before the first
+front_on : List ℕ → List (List ℕ) → List (List ℕ)
+front_on [] parts = parts
+front_on (x ∷ xs) parts = onto_first x (front_on xs parts)
+
+front_on_both : (xs ys : List ℕ) (parts : List (List ℕ)) → front_on (xs ++ ys) parts ≡ front_on xs (front_on ys parts)
+unfolding front_on
+front_on_both [] ys parts = refl
+front_on_both (x ∷ xs) ys parts = ap (onto_first x) (front_on_both xs ys parts)
+
+front_on_next : (xs : List ℕ) (parts : List (List ℕ)) → front_on xs ([] ∷ parts) ≡ xs ∷ parts
+unfolding front_on
+front_on_next [] parts = refl
+front_on_next (x ∷ xs) parts = ap (onto_first x) (front_on_next xs parts)
+
+-- a text after which quotes are closed, with no `,` but in quotes
+IsClosed : List ℕ → Type 0
+IsClosed xs = (rest : List ℕ) → items_of None (xs ++ rest) ≡ front_on xs (items_of None rest)
+
+closed_bare : (xs : List ℕ) → NoneOf bars_bare xs → IsClosed xs
+unfolding IsClosed front_on
+closed_bare [] h rest = refl
+closed_bare (x ∷ xs) h rest =
+    ap (λ k. cond k ([] ∷ items_of None (xs ++ rest)) (onto_first x (items_of (cond (is_quote x) (Some x) None) (xs ++ rest)))) (bare_comma x (h.0))
+    ∙ ap (λ (k : Bool). onto_first x (items_of (cond k (Some x) None) (xs ++ rest))) (bare_quote x (h.0))
+    ∙ ap (onto_first x) (closed_bare xs h.1 rest)
+  where
+    bare_comma : (b : ℕ) → bars_bare b ≡ false → (b == comma) ≡ false
+    bare_comma b h = grind (arith, nat_tests)
+
+    bare_quote : (b : ℕ) → bars_bare b ≡ false → is_quote b ≡ false
+    bare_quote b h = grind (arith, nat_tests)
+
+in_marks : (mark : ℕ) (xs rest : List ℕ) → NoneOf (is_byte mark) xs → items_of (Some mark) (xs ++ rest) ≡ front_on xs (items_of (Some mark) rest)
+unfolding front_on
+in_marks mark [] rest h = refl
+in_marks mark (x ∷ xs) rest h =
+    ap (λ (k : Bool). onto_first x (items_of (cond k None (Some mark)) (xs ++ rest))) (h.0) ∙ ap (onto_first x) (in_marks mark xs rest h.1)
+
+closed_quotes : (mark : ℕ) (xs : List ℕ) → is_quote mark ≡ true → NoneOf (is_byte mark) xs → IsClosed (mark ∷ (xs ++ mark ∷ []))
+unfolding IsClosed front_on
+closed_quotes mark xs q h rest =
+    let text : List ℕ = (xs ++ mark ∷ []) ++ rest in
+    ap (λ k. cond k ([] ∷ items_of None text) (onto_first mark (items_of (cond (is_quote mark) (Some mark) None) text))) (quote_comma mark q)
+    ∙ ap (λ (k : Bool). onto_first mark (items_of (cond k (Some mark) None) text)) q
+    ∙ ap (λ t. onto_first mark (items_of (Some mark) t)) (append_assoc xs (mark ∷ []) rest)
+    ∙ ap (onto_first mark) (in_marks mark xs (mark ∷ rest) h)
+    ∙ ap (λ (k : Bool). onto_first mark (front_on xs (onto_first mark (items_of (cond k None (Some mark)) rest)))) (eq-eqb mark mark refl)
+    ∙ ap (onto_first mark) (sym (front_on_both xs (mark ∷ []) (items_of None rest)))
+  where
+    quote_comma : (b : ℕ) → is_quote b ≡ true → (b == comma) ≡ false
+    quote_comma b h = grind (arith, nat_tests)
+
+closed_value : (written value : List ℕ) → IsValue written value → IsClosed written
+closed_value written value (bare v h) = closed_bare v h
+closed_value written value (in_quotes mark v q h) = closed_quotes mark v q h
+
+closed_both : (xs ys : List ℕ) → IsClosed xs → IsClosed ys → IsClosed (xs ++ ys)
+unfolding IsClosed
+closed_both xs ys h k rest =
+    ap (items_of None) (append_assoc xs ys rest) ∙ h (ys ++ rest) ∙ ap (front_on xs) (k rest) ∙ sym (front_on_both xs ys (items_of None rest))
+
+all_bare : (xs : List ℕ) → list_any bars_bare xs ≡ false → IsClosed xs
+all_bare xs h = closed_bare xs (any_none bars_bare xs h)
+
+closed_item : (given behind : Given) (item : List ℕ) → IsItem given item behind → IsClosed item
+closed_item given behind item (item_version g written value clause new is w) = closed_both (codes "version=") written (all_bare (codes "version=") refl) (closed_value written value is)
+closed_item given behind item (item_build g written value new is free) = closed_both (codes "build=") written (all_bare (codes "build=") refl) (closed_value written value is)
+closed_item given behind item (item_number g written value number new is n) = closed_both (codes "build_number=") written (all_bare (codes "build_number=") refl) (closed_value written value is)
+closed_item given behind item (item_channel g written value new is free) = closed_both (codes "channel=") written (all_bare (codes "channel=") refl) (closed_value written value is)
+closed_item given behind item (item_subdir g written value new is free) = closed_both (codes "subdir=") written (all_bare (codes "subdir=") refl) (closed_value written value is)
+
+items_give : (before behind : Given) (at : ℕ) (text : List ℕ) → IsItems before text behind → items_read before at (items_of None text) ≡ Ok behind
+unfolding items_read IsClosed
+items_give before behind at text (items_last g b item is) =
+    let one : items_of None item ≡ item ∷ [] =
+    ap (items_of None) (sym (append-nil item)) ∙ closed_item g b item is [] ∙ front_on_next item []
+    in
+    ap (items_read g at) one ∙ ap (λ (r : SpecRead Given). r >>= λ given. Ok given) (item_gives g b at item is)
+items_give before behind at text (items_more g next b item rest is later) =
+    let first : items_of None (item ++ comma ∷ rest) ≡ item ∷ items_of None rest = closed_item g next item is (comma ∷ rest) ∙ front_on_next item (items_of None rest) in
+    ap (items_read g at) first
+    ∙ ap (λ (r : SpecRead Given). r >>= λ given. items_read given (at + length item + 1) (items_of None rest)) (item_gives g next at item is)
+    ∙ items_give next b (at + length item + 1) rest later
+
+-- ---- the whole
+
+brackets_absent : (l : Laws) (text : List ℕ) → ((before inside : List ℕ) → text ≢ (before ++ open_bracket ∷ inside) ++ close_bracket ∷ []) → brackets_of text ≡ None
+brackets_absent l text h = by (without_last close_bracket text) refl
+  where
+    by : (o : Option (List ℕ)) → without_last close_bracket text ≡ o → option_and_then (cut_last open_bracket) o ≡ None
+    by None e = refl
+    by (Some t) e = by_cut (cut_last open_bracket t) refl
+      where
+        by_cut : (cut : Option (List ℕ × List ℕ)) → cut_last open_bracket t ≡ cut → cut ≡ None
+        by_cut None f = refl
+        by_cut (Some cut) f =
+            absurd (h cut.0 cut.1 (last_some close_bracket text t e ∙ ap (λ q. q ++ close_bracket ∷ []) (((l.last open_bracket t cut.0 cut.1).0 f).0)))
+
+pub spec_gives : (l : Laws) (text : List ℕ) (parts : Parts) → IsSpecText text parts → spec_read text ≡ Ok parts
+unfolding spec_read
+spec_gives l text parts (plain t front none is) =
+    ap (spec_cut t) (brackets_absent l t none) ∙ ap (λ (r : SpecRead Front). r >>= λ front. Ok (parts_of front nothing)) (front_gives l t front is)
+spec_gives l text parts (bracketed before inside front given free is items) =
+    let t : List ℕ = before ++ open_bracket ∷ inside in
+    ap (spec_cut (t ++ close_bracket ∷ [])) (ap (option_and_then (cut_last open_bracket)) (last_off close_bracket t) ∙ (l.last open_bracket t before inside).1 (refl, free))
+    ∙ ap (λ (r : SpecRead Front). r >>= λ front. items_read nothing (length before + 1) (items_of None inside) >>= λ given. Ok (parts_of front given)) (front_gives l before front is)
+    ∙ ap (λ (r : SpecRead Given). r >>= λ given. Ok (parts_of front given)) (items_give nothing given (length before + 1) inside items)

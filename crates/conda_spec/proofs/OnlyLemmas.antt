@@ -143,7 +143,7 @@ pub none_any : (p : ℕ → Bool) (xs : List ℕ) → NoneOf p xs → list_any p
 none_any p [] h = refl
 none_any p (x ∷ xs) h = rw (h.0) (none_any p xs h.1)
 
-any_none : (p : ℕ → Bool) (xs : List ℕ) → list_any p xs ≡ false → NoneOf p xs
+pub any_none : (p : ℕ → Bool) (xs : List ℕ) → list_any p xs ≡ false → NoneOf p xs
 any_none p [] h = tt
 any_none p (x ∷ xs) h = by (p x) refl h (any_none p xs)
   where
@@ -547,7 +547,7 @@ front_only l text found h = by (cut_colons text) refl h
 
 -- ---- the brackets
 
-last_some : (mark : ℕ) (text front : List ℕ) → without_last mark text ≡ Some front → text ≡ front ++ mark ∷ []
+pub last_some : (mark : ℕ) (text front : List ℕ) → without_last mark text ≡ Some front → text ≡ front ++ mark ∷ []
 last_some mark [] front h = absurd (cc)
 last_some mark (b ∷ []) front h = by (b == mark) refl h
   where
