@@ -1,27 +1,25 @@
--- Lemmas on how the brackets of a normal form are read.
-use Rattle.std.proofs.Common.{◌≡◌, ◌≢◌, ◌==◌, ◌<◌, ℕ, subst, ◌+◌, ◌-◌, ◌*◌, Bool, true, false, cond, length, List, [], ◌∷◌, ◌++◌, refl, sym, ap, ◌∙◌, arith, append_assoc}
+-- The brackets of a normal form are brackets of the grammar.
+use Rattle.std.proofs.Common.{◌≡◌, ◌≢◌, ◌==◌, ◌<◌, ℕ, subst, ◌+◌, ◌-◌, ◌*◌, Bool, true, false, length, List, [], ◌∷◌, ◌++◌, refl, sym, ap, ◌∙◌, arith, append_assoc}
 use Rattle.std.proofs.lemmas.Bool.Decides.{nat_tests}
 use Rattle.std.proofs.lemmas.Fmt.{decimal_nonempty, digits_decimal, digits_value-decimal}
 use Rattle.std.proofs.lemmas.Str.Parse.{FoldsDigits, IsDigitsTest, IsNumeralModel, numerals_by_fold}
-use Rattle.std.specs.Prelude.{None, Some, IfSome, Ok, nat_lt, fold, ◌||◌, Option, codes}
+use Rattle.std.specs.Prelude.{None, Some, IfSome, nat_lt, fold, Option, codes}
 use Rattle.std.specs.Char.{is_ascii_digit}
 use Rattle.std.specs.Fmt.{decimal}
-use Rattle.std.specs.Option.{option_map, option_and_then}
-use Rattle.std.specs.List.{list_all, list_any, onto_first}
+use Rattle.std.specs.List.{list_all}
+use Rattle.conda_base.specs.Signs.{open_bracket}
+use Rattle.conda_base.specs.Texts.{IsFreeOf, is_byte}
 use Rattle.conda_version.specs.Grammar.{is_number, number_of}
 use Rattle.conda_spec.specs.declared.given.Given.{Given}
-use Rattle.conda_spec.specs.declared.given.ItemKey.TheVariants as keys
-use Rattle.conda_base.specs.Texts.{cut_last}
-use Rattle.conda_spec.specs.Cuts.{without_last}
-use Rattle.conda_base.specs.Reads.{◌>>=◌}
-use Rattle.conda_spec.specs.Reading.{SpecRead}
+use Rattle.conda_spec.specs.Grammar.{IsItem, IsItems}
+use Rattle.conda_spec.specs.Grammar.IsItem.{build_number as item_number, subdir as item_subdir}
+use Rattle.conda_spec.specs.Grammar.IsItems.{last, more}
+use Rattle.conda_spec.specs.Grammar.IsValue.{bare}
 use Rattle.conda_spec.specs.Parts.{IsFreeWord, NoneOf, bars_channel}
-use Rattle.conda_spec.specs.Reading.{bars_bare, brackets_of, is_quote, item_key, item_read, items_of, items_read, nothing, put, short_number, value_of, without_quote}
+use Rattle.conda_spec.specs.Reading.{bars_bare, nothing, short_number}
 use Rattle.conda_spec.specs.Text.{brackets_text}
 use Rattle.conda_spec.proofs.PieceLemmas.{AllOf, fewer, none_in_both, none_of_all}
 use Rattle.conda_spec.proofs.KeptLemmas.{is_space}
-use Rattle.conda_spec.proofs.SeamLemmas.{is_this, last_cut_at, last_off}
-use Rattle.conda_spec.proofs.FrontLemmas.{channel_reads, none_any}
 
 -- The digits of a number.
 
@@ -57,36 +55,7 @@ number_reads n h = rw (number_is n h) (rw (digits_value-decimal numerals n h) (l
 some_digits : (n : ℕ) → n < 18446744073709551616 → decimal n ≢ []
 some_digits n h e = let some : 0 < length (decimal n) = decimal_nonempty n h in absurd (omega (arith, some, ap length e))
 
--- Items without quotes.
-
--- a character that ends an item, or with which quotes begin or end
-bars_item : ℕ → Bool
-bars_item b = b == 44 || is_quote b
-
-one_item : (xs : List ℕ) → NoneOf bars_item xs → items_of None xs ≡ xs ∷ []
-unfolding bars_item
-one_item [] h = refl
-one_item (x ∷ xs) h =
-    let comma : (x == 44) ≡ false = grind (arith, nat_tests, h.0) in
-    let quote : is_quote x ≡ false = grind (arith, nat_tests, h.0) in
-    rw comma (rw quote (ap (onto_first x) (one_item xs h.1)))
-
-first_item : (xs ys : List ℕ) → NoneOf bars_item xs → items_of None (xs ++ (44 ∷ ys)) ≡ xs ∷ items_of None ys
-unfolding bars_item
-first_item [] ys h = refl
-first_item (x ∷ xs) ys h =
-    let comma : (x == 44) ≡ false = grind (arith, nat_tests, h.0) in
-    let quote : is_quote x ≡ false = grind (arith, nat_tests, h.0) in
-    rw comma (rw quote (ap (onto_first x) (first_item xs ys h.1)))
-
-value_is : (at : ℕ) (xs : List ℕ) → xs ≢ [] → NoneOf bars_bare xs → value_of at xs ≡ Some (at, xs)
-value_is at [] some h = absurd (some refl)
-value_is at (x ∷ xs) some h =
-    let quote : is_quote x ≡ false = grind (arith, nat_tests, h.0) in
-    let whole : Option (ℕ × List ℕ) = Some (at, x ∷ xs) in
-    let quoted : Option (ℕ × List ℕ) = option_map (λ text. (at + 1, text)) (option_and_then (without_quote x) (without_last x xs)) in
-    ap (λ (k : Bool). cond k quoted (cond (list_any bars_bare (x ∷ xs)) None whole)) quote
-    ∙ ap (λ (barred : Bool). cond barred None whole) (none_any bars_bare (x ∷ xs) h)
+-- What stands in brackets.
 
 no_bar_in_digit : (b : ℕ) → is_ascii_digit b ≡ true → bars_bare b ≡ false
 no_bar_in_digit b h = grind (arith, nat_tests)
@@ -94,29 +63,13 @@ no_bar_in_digit b h = grind (arith, nat_tests)
 no_bar_in_subdir : (b : ℕ) → bars_channel b ≡ false → bars_bare b ≡ false
 no_bar_in_subdir b h = grind (arith, nat_tests)
 
-no_end_in_digit : (b : ℕ) → is_ascii_digit b ≡ true → bars_item b ≡ false
-unfolding bars_item
-no_end_in_digit b h = grind (arith, nat_tests)
+number_item : (given : Given) (n : ℕ) → n < 18446744073709551616 → given.number ≡ None → IsItem given (codes "build_number=" ++ decimal n) (record given { number = Some n })
+number_item given n h new =
+    item_number given (decimal n) (decimal n) n new (bare (decimal n) (none_of_all is_ascii_digit bars_bare no_bar_in_digit (decimal n) (digits_are n h))) (number_reads n h)
 
-no_end_in_subdir : (b : ℕ) → bars_channel b ≡ false → bars_item b ≡ false
-unfolding bars_item
-no_end_in_subdir b h = grind (arith, nat_tests)
-
--- The items of the normal form.
-
-number_item : (given : Given) (at n : ℕ) → n < 18446744073709551616 → given.number ≡ None
-    → item_read given at (codes "build_number=" ++ decimal n) ≡ Ok (record given { number = Some n })
-unfolding item_read put
-number_item given at n h new =
-    ap (item_key given at (Some keys.BuildNumber)) (value_is (at + 12 + 1) (decimal n) (some_digits n h) (none_of_all is_ascii_digit bars_bare no_bar_in_digit (decimal n) (digits_are n h)))
-    ∙ rw new (rw (number_reads n h) refl)
-
-subdir_item : (given : Given) (at : ℕ) (subdir : List ℕ) → IsFreeWord bars_channel subdir → given.subdir ≡ None
-    → item_read given at (codes "subdir=" ++ subdir) ≡ Ok (record given { subdir = Some subdir })
-unfolding item_read put
-subdir_item given at subdir h new =
-    ap (item_key given at (Some keys.Subdir)) (value_is (at + 6 + 1) subdir h.0 (fewer bars_channel bars_bare no_bar_in_subdir subdir h.1))
-    ∙ rw new (rw (channel_reads (at + 6 + 1) subdir h) refl)
+subdir_item : (given : Given) (subdir : List ℕ) → IsFreeWord bars_channel subdir → given.subdir ≡ None → IsItem given (codes "subdir=" ++ subdir) (record given { subdir = Some subdir })
+subdir_item given subdir h new =
+    item_subdir given subdir subdir new (bare subdir (fewer bars_channel bars_bare no_bar_in_subdir subdir h.1)) h
 
 -- there are brackets
 abbrev pub HasBrackets : Option ℕ → Option (List ℕ) → Type 0
@@ -131,34 +84,18 @@ inner (Some number) None = codes "build_number=" ++ decimal number
 inner None (Some subdir) = codes "subdir=" ++ subdir
 inner (Some number) (Some subdir) = (codes "build_number=" ++ decimal number) ++ (44 ∷ (codes "subdir=" ++ subdir))
 
-number_chars : (n : ℕ) → n < 18446744073709551616 → NoneOf bars_item (codes "build_number=" ++ decimal n)
-unfolding bars_item
-number_chars n h = none_in_both bars_item (codes "build_number=") (decimal n) (refl, (refl, (refl, (refl, (refl, (refl, (refl, (refl, (refl, (refl, (refl, (refl, (refl, tt)))))))))))))
-    (none_of_all is_ascii_digit bars_item no_end_in_digit (decimal n) (digits_are n h))
-
-subdir_chars : (subdir : List ℕ) → IsFreeWord bars_channel subdir → NoneOf bars_item (codes "subdir=" ++ subdir)
-unfolding bars_item
-subdir_chars subdir h = none_in_both bars_item (codes "subdir=") subdir (refl, (refl, (refl, (refl, (refl, (refl, (refl, tt)))))))
-    (fewer bars_channel bars_item no_end_in_subdir subdir h.1)
-
--- the items give the number and the subdir again
-pub items_give : (at : ℕ) (number : Option ℕ) (subdir : Option (List ℕ)) → HasBrackets number subdir → IfSome number (λ n. n < 18446744073709551616) → IfSome subdir (IsFreeWord bars_channel)
-    → items_read nothing at (items_of None (inner number subdir)) ≡ Ok (record nothing { number = number; subdir = subdir })
-unfolding inner items_read
-items_give at None None some h k = absurd some
-items_give at (Some n) None some h k =
-    ap (items_read nothing at) (one_item (codes "build_number=" ++ decimal n) (number_chars n h))
-    ∙ ap (λ (r : SpecRead Given). r >>= λ given. Ok given) (number_item nothing at n h refl)
-items_give at None (Some subdir) some h k =
-    ap (items_read nothing at) (one_item (codes "subdir=" ++ subdir) (subdir_chars subdir k))
-    ∙ ap (λ (r : SpecRead Given). r >>= λ given. Ok given) (subdir_item nothing at subdir k refl)
-items_give at (Some n) (Some subdir) some h k =
-    let first : List ℕ = codes "build_number=" ++ decimal n in
-    let second : List ℕ = codes "subdir=" ++ subdir in
-    let next : ℕ = at + length first + 1 in
-    ap (items_read nothing at) (first_item first second (number_chars n h) ∙ ap (λ (items : List (List ℕ)). first ∷ items) (one_item second (subdir_chars subdir k)))
-    ∙ ap (λ (r : SpecRead Given). r >>= λ given. item_read given next second >>= λ given. Ok given) (number_item nothing at n h refl)
-    ∙ ap (λ (r : SpecRead Given). r >>= λ given. Ok given) (subdir_item (record nothing { number = Some n }) next subdir k refl)
+-- the items give the number and the subdir
+pub items_give : (number : Option ℕ) (subdir : Option (List ℕ)) → HasBrackets number subdir → IfSome number (λ n. n < 18446744073709551616) → IfSome subdir (IsFreeWord bars_channel)
+    → IsItems nothing (inner number subdir) (record nothing { number = number; subdir = subdir })
+unfolding inner
+items_give None None some h k = absurd some
+items_give (Some n) None some h k = last nothing (record nothing { number = Some n }) (codes "build_number=" ++ decimal n) (number_item nothing n h refl)
+items_give None (Some subdir) some h k = last nothing (record nothing { subdir = Some subdir }) (codes "subdir=" ++ subdir) (subdir_item nothing subdir k refl)
+items_give (Some n) (Some subdir) some h k =
+    let one : Given = record nothing { number = Some n } in
+    let both : Given = record nothing { number = Some n; subdir = Some subdir } in
+    more nothing one both (codes "build_number=" ++ decimal n) (codes "subdir=" ++ subdir) (number_item nothing n h refl)
+    (last one both (codes "subdir=" ++ subdir) (subdir_item one subdir k refl))
 
 -- Where the brackets begin and end.
 
@@ -176,7 +113,7 @@ not_in_number p f n h = none_in_both p (codes "build_number=") (decimal n) f.num
 not_in_subdir : (p : ℕ → Bool) → IsNotInner p → (subdir : List ℕ) → IsFreeWord bars_channel subdir → NoneOf p (codes "subdir=" ++ subdir)
 not_in_subdir p f subdir h = none_in_both p (codes "subdir=") subdir f.subdir_key (fewer bars_channel p f.subdir subdir h.1)
 
-pub not_inner : (p : ℕ → Bool) → IsNotInner p → (number : Option ℕ) (subdir : Option (List ℕ)) → IfSome number (λ n. n < 18446744073709551616) → IfSome subdir (IsFreeWord bars_channel)
+not_inner : (p : ℕ → Bool) → IsNotInner p → (number : Option ℕ) (subdir : Option (List ℕ)) → IfSome number (λ n. n < 18446744073709551616) → IfSome subdir (IsFreeWord bars_channel)
     → NoneOf p (inner number subdir)
 unfolding inner
 not_inner p f None None h k = tt
@@ -185,7 +122,7 @@ not_inner p f None (Some subdir) h k = not_in_subdir p f subdir k
 not_inner p f (Some n) (Some subdir) h k =
     none_in_both p (codes "build_number=" ++ decimal n) (44 ∷ (codes "subdir=" ++ subdir)) (not_in_number p f n h) (f.comma, not_in_subdir p f subdir k)
 
-opening_not_inner : IsNotInner (is_this 91)
+opening_not_inner : IsNotInner (is_byte open_bracket)
 opening_not_inner = record {
   digit = λ b h. grind (arith, nat_tests);
   subdir = λ b h. grind (arith, nat_tests);
@@ -203,22 +140,18 @@ space_not_inner = record {
   comma = refl;
 }
 
+-- no `[` stands in them
+pub no_opening : (number : Option ℕ) (subdir : Option (List ℕ)) → IfSome number (λ n. n < 18446744073709551616) → IfSome subdir (IsFreeWord bars_channel) → IsFreeOf open_bracket (inner number subdir)
+no_opening number subdir h k = not_inner (is_byte open_bracket) opening_not_inner number subdir h k
+
 -- the brackets hold what stands in them
-brackets_hold : (number : Option ℕ) (subdir : Option (List ℕ)) → HasBrackets number subdir → brackets_text number subdir ≡ 91 ∷ (inner number subdir ++ (93 ∷ []))
+pub brackets_hold : (number : Option ℕ) (subdir : Option (List ℕ)) → HasBrackets number subdir → brackets_text number subdir ≡ 91 ∷ (inner number subdir ++ (93 ∷ []))
 unfolding inner
 brackets_hold None None some = absurd some
 brackets_hold (Some n) None some = refl
 brackets_hold None (Some subdir) some = refl
 brackets_hold (Some n) (Some subdir) some =
     ap (λ t. codes "[build_number=" ++ t) (sym (append_assoc (decimal n) (codes ",subdir=" ++ subdir) (codes "]")))
-
-pub brackets_cut : (front : List ℕ) (number : Option ℕ) (subdir : Option (List ℕ)) → HasBrackets number subdir → IfSome number (λ n. n < 18446744073709551616) → IfSome subdir (IsFreeWord bars_channel)
-    → brackets_of (front ++ brackets_text number subdir) ≡ Some (front, inner number subdir)
-brackets_cut front number subdir some h k =
-    ap (λ t. brackets_of (front ++ t)) (brackets_hold number subdir some)
-    ∙ ap brackets_of (sym (append_assoc front (91 ∷ inner number subdir) (93 ∷ [])))
-    ∙ ap (option_and_then (cut_last 91)) (last_off 93 (front ++ (91 ∷ inner number subdir)))
-    ∙ last_cut_at 91 front (inner number subdir) (not_inner (is_this 91) opening_not_inner number subdir h k)
 
 spaceless : (number : Option ℕ) (subdir : Option (List ℕ)) → HasBrackets number subdir → IfSome number (λ n. n < 18446744073709551616) → IfSome subdir (IsFreeWord bars_channel)
     → NoneOf is_space (brackets_text number subdir)

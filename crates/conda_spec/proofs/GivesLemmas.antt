@@ -38,9 +38,20 @@ use Rattle.conda_spec.proofs.LowerLaws.{Laws}
 use Rattle.conda_spec.proofs.OnlyLemmas.{any_none, equal_word, last_some, none_any}
 use Rattle.conda_spec.proofs.PieceLemmas.{fewer, first_place, no_place, none_in_both}
 use Rattle.conda_spec.proofs.SeamLemmas.{colons_cut, last_off}
-use Rattle.conda_spec.proofs.FrontLemmas.{build_reads, channel_reads, wanted_spaced}
 
 -- ---- version clauses and builds
+
+free_is : (bars : ℕ → Bool) (text : List ℕ) → IsFreeWord bars text → is_free bars text ≡ true
+free_is bars [] h = absurd (h.0 refl)
+free_is bars (x ∷ xs) h = rw (none_any bars (x ∷ xs) h.1) (grind (arith, nat_tests))
+
+channel_reads : (at : ℕ) (text : List ℕ) → IsFreeWord bars_channel text → channel_at at text ≡ Ok text
+unfolding channel_at
+channel_reads at text h = rw (free_is bars_channel text h) refl
+
+build_reads : (at : ℕ) (text : List ℕ) → IsFreeWord bars_build text → build_at at text ≡ Ok text
+unfolding build_at
+build_reads at text h = rw (free_is bars_build text h) refl
 
 clause_gives : (place : ℕ → ℕ) (start added : ℕ) (text clause : List ℕ) → Writes text clause → clause_at place start added text ≡ Ok clause
 unfolding clause_at
@@ -118,6 +129,10 @@ not_equal_word word h = by (is_equal_word word) refl
     by : (k : Bool) → is_equal_word word ≡ k → is_equal_word word ≡ false
     by false e = e
     by true e = let is = equal_word word e in absurd (h (drop 1 word) is.1 is.0)
+
+wanted_spaced : (place : ℕ → ℕ) (text : List ℕ) (b : ℕ) (bs : List ℕ) → text ≡ b ∷ bs → is_joint b ≡ false → wanted_read place true text ≡ spaced_read place text
+unfolding wanted_read
+wanted_spaced place text b bs is h = subst (λ t. wanted_read place true t ≡ spaced_read place t) (sym is) (rw h refl)
 
 spaced_gives : (l : Laws) (place : ℕ → ℕ) (word text : List ℕ) (version build : Option (List ℕ)) → IsWords word text version build
     → (IsSome build → (v : List ℕ) → NoneOf is_sign_or_equals v → word ≢ equals ∷ v) → wanted_read place true text ≡ Ok (version, build)

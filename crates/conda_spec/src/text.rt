@@ -5,6 +5,7 @@ ghost use Rattle.conda_spec.specs.Parts.{IsSpec};
 ghost use Rattle.conda_spec.specs.Reading.{spec_read};
 ghost use Rattle.conda_spec.specs.Text.{brackets_text, channel_text, spec_text, word_text};
 
+use crate::laws::normal_form_law;
 use crate::spec::Spec;
 use conda_base::{Copied, Text};
 use conda_clause::{SpecErr, VersionClause};
@@ -18,8 +19,8 @@ impl Spec {
         ensures again { IfOk result (λ t. spec_read (trimmed (string_bytes t)) ≡ Ok self.now) }
         ensures bad { IfErr result (λ e. e ≡ Memory) }
     {
-        let text = self.normal_form(alloc)?;
-        Ok(text)
+        normal_form_law();
+        Ok(self.normal_form(alloc)?)
     }
 
     fn normal_form(&self, alloc: Global) -> Result<String, AllocError>
