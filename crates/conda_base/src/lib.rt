@@ -11,6 +11,6 @@ mod text;
 pub use bytes::Bytes;
 pub use copied::{Copied, copied_all};
 pub use cut::{cut_first, cut_last, cut_laws};
-pub use number::{number_laws, read_digits, read_number, read_u64};
+pub use number::{digits_u64, number_laws, read_digits, read_number, read_u64};
 pub use rows::Rows;
 pub use text::Text;

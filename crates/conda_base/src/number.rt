@@ -4,7 +4,7 @@ ghost use Rattle.conda_base.specs.Numbers as numbers;
 ghost use Rattle.conda_base.specs.Numbers.{digits_below, is_digits, number_below};
 
 /// The number below 2^64 that digits mean, leading zeros or not.
-fn digits_u64(text: &[u8]) -> Option<u64>
+pub fn digits_u64(text: &[u8]) -> Option<u64>
     ensures { result ≡ digits_below (2 ^ 64) text.now }
 {
     if text.is_empty() {
