@@ -6,12 +6,11 @@ use Rattle.std.proofs.Math.Dec.{ltb}
 use Rattle.std.proofs.lemmas.Bool.{eqb-true, lt-ltb, le-ltb}
 use Rattle.conda_clause.specs.declared.error.SpecErr.{SpecErr}
 use Rattle.conda_clause.specs.declared.error.SpecErr.TheVariants.{BadSpec, Memory}
-use Rattle.conda_version.specs.Grammar.{is_number, number_of}
 use Rattle.conda_spec.specs.declared.given.Given.{Given}
 use Rattle.conda_base.specs.Reads.{Gives, ◌>>=◌}
 use Rattle.conda_clause.specs.Faults.{spec_fault_of}
 use Rattle.conda_spec.specs.Reading.{SpecRead}
-use Rattle.conda_spec.specs.Reading.{ends_item, item_end, item_read, items_of, items_read, quote_behind, short_number}
+use Rattle.conda_spec.specs.Reading.{ends_item, item_end, item_read, items_of, items_read, quote_behind}
 
 -- a refusal names its fault
 abbrev pub Fails : {A : Type 0} → SpecErr → SpecRead A → Type 0
@@ -88,32 +87,3 @@ pub items_last : (r : Result Given SpecErr) (given : Given) (at : ℕ) (item : L
 unfolding items_read
 items_last (Ok x) given at item h = ap (λ r. r >>= λ next. items_read next (at + length item + 1) []) h
 items_last (Err e) given at item h = items_fail e given at item [] h
-
--- numbers below 2 ^ 64
-
-step_of : ℕ → ℕ → ℕ
-step_of n d = n * 10 + (d - 48)
-
-pub grows : (n : ℕ) (ds : List ℕ) → n ≤ fold (λ n d. n * 10 + (d - 48)) n ds
-grows n [] = omega arith
-grows n (d ∷ ds) = let more = grows (n * 10 + (d - 48)) ds in omega (arith, more)
-
-and_false : (b : Bool) → b && false ≡ false
-and_false true = refl
-and_false false = refl
-
-pub too_great : (n : ℕ) (ds s : List ℕ) → 18446744073709551616 ≤ n → fold (λ n d. n * 10 + (d - 48)) n ds ≡ number_of s → short_number s ≡ None
-too_great n ds s h e =
-    let great : ltb (number_of s) 18446744073709551616 ≡ false = le-ltb (number_of s) 18446744073709551616 (omega (arith, h, grows n ds, e)) in
-    ap (λ v. cond (is_number s && v) (Some (number_of s)) None) great
-    ∙ ap (λ v. cond v (Some (number_of s)) None) (and_false (is_number s))
-
-pub no_number : (s : List ℕ) → list_all is_ascii_digit s ≡ false → short_number s ≡ None
-no_number s h =
-    ap (λ v. cond ((ltb 0 (length s) && v) && ltb (number_of s) 18446744073709551616) (Some (number_of s)) None) h
-    ∙ ap (λ v. cond (v && ltb (number_of s) 18446744073709551616) (Some (number_of s)) None) (and_false (ltb 0 (length s)))
-
-pub a_number : (n : ℕ) (s : List ℕ) → 0 < length s → list_all is_ascii_digit s ≡ true → n < 18446744073709551616 → n ≡ number_of s → short_number s ≡ Some n
-a_number n s some digits small e =
-    let short : ltb (number_of s) 18446744073709551616 ≡ true = lt-ltb (number_of s) 18446744073709551616 (omega (arith, small, e)) in
-    rw (digits, short, lt-ltb 0 (length s) some, e) refl

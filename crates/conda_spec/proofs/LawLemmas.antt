@@ -84,9 +84,9 @@ front_closes (Some channel) name version build free chars h =
     (none_in_both (is_byte close_bracket) channel (codes "::") (fewer bars_channel (is_byte close_bracket) no_colon_in_channel channel free.1) (refl, (refl, tt)))
     (no_bracket name version build chars h)
 
-form_is : (number : Option ℕ) (subdir : Option (List ℕ)) (parts : Parts) → parts.number ≡ number → parts.subdir ≡ subdir → IsSpec parts → CanFollow parts.version parts.build → IsSpecText (spec_text parts) parts
+form_is : (l : Laws) (number : Option ℕ) (subdir : Option (List ℕ)) (parts : Parts) → parts.number ≡ number → parts.subdir ≡ subdir → IsSpec parts → CanFollow parts.version parts.build → IsSpecText (spec_text parts) parts
 unfolding front_text
-form_is number subdir parts n s h follow = subst (λ t. IsSpecText t parts) (sym (text_is parts)) (by number subdir n s)
+form_is l number subdir parts n s h follow = subst (λ t. IsSpecText t parts) (sym (text_is parts)) (by number subdir n s)
   where
     front : Front
     front = front_of parts.channel parts.name parts.version parts.build
@@ -112,7 +112,7 @@ form_is number subdir parts n s h follow = subst (λ t. IsSpecText t parts) (sym
         in
         subst (IsSpecText (text ++ brackets_text parts.number parts.subdir)) whole
         (subst (λ t. IsSpecText t (parts_of front given)) at
-        (bracketed text inside front given (no_opening parts.number parts.subdir h.number h.subdir) is (items_give parts.number parts.subdir some h.number h.subdir)))
+        (bracketed text inside front given (no_opening l parts.number parts.subdir h.number h.subdir) is (items_give l parts.number parts.subdir some h.number h.subdir)))
 
     by : (number : Option ℕ) (subdir : Option (List ℕ)) → parts.number ≡ number → parts.subdir ≡ subdir → IsSpecText (front_text parts ++ brackets_text parts.number parts.subdir) parts
     by None None n s =
@@ -164,18 +164,18 @@ ends front (Some clause) (Some build) bare follow =
 whole_is : (parts : Parts) → ((channel_text parts.channel ++ parts.name) ++ (word_text parts.version ++ word_text parts.build)) ++ brackets_text parts.number parts.subdir ≡ spec_text parts
 whole_is parts = simp append_assoc
 
-bare_text : (parts : Parts) → IsSpec parts → CanFollow parts.version parts.build → trimmed (spec_text parts) ≡ spec_text parts
-bare_text parts h follow =
+bare_text : (l : Laws) (parts : Parts) → IsSpec parts → CanFollow parts.version parts.build → trimmed (spec_text parts) ≡ spec_text parts
+bare_text l parts h follow =
     let front : List ℕ = channel_text parts.channel ++ parts.name in
     trimmed_same (spec_text parts)
     (begins parts.channel parts.name (word_text parts.version ++ (word_text parts.build ++ brackets_text parts.number parts.subdir)) h.channel h.name.1 h.name.0)
     (subst EndsBare (whole_is parts)
     (ends_by (front ++ (word_text parts.version ++ word_text parts.build)) (brackets_text parts.number parts.subdir)
     (ends front parts.version parts.build (ends_by_word (channel_text parts.channel) parts.name (name_spaces parts.name h.name.1) h.name.0) follow)
-    (brackets_hold_no_space parts.number parts.subdir h.number h.subdir)))
+    (brackets_hold_no_space l parts.number parts.subdir h.number h.subdir)))
 
 -- the normal form is read as the specification that it was written of
 pub read_again : Laws → (parts : Parts) → IsSpec parts → spec_read (trimmed (spec_text parts)) ≡ Ok parts
 read_again l parts h =
     let follow : CanFollow parts.version parts.build = follows l parts.version parts.build h.version h.build h.together in
-    ap spec_read (bare_text parts h follow) ∙ spec_gives l (spec_text parts) parts (form_is parts.number parts.subdir parts refl refl h follow)
+    ap spec_read (bare_text l parts h follow) ∙ spec_gives l (spec_text parts) parts (form_is l parts.number parts.subdir parts refl refl h follow)

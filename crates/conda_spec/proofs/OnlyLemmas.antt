@@ -12,7 +12,7 @@ use Rattle.std.specs.Prelude.{codes, is_some, IsSome, nat_eq, nat_lt, ◌==◌, 
 use Rattle.conda_base.specs.Reads.{◌>>=◌, unless}
 use Rattle.conda_base.specs.Signs.{close_bracket, colon, comma, equals, open_bracket, slash, space}
 use Rattle.conda_base.specs.Texts.{IsFreeOf, begins_with, cut_first, cut_last, ends_with, in_front, is_byte}
-use Rattle.conda_version.specs.Text.{holds}
+use Rattle.conda_base.specs.Numbers.{digits_below}
 use Rattle.conda_clause.specs.declared.error.SpecWhy.{SpecWhy}
 use Rattle.conda_clause.specs.declared.error.SpecWhy.TheVariants.{Build, Channel, Key, Name, Words}
 use Rattle.conda_clause.specs.Clause.{clause_fault}
@@ -33,7 +33,7 @@ use Rattle.conda_spec.specs.Grammar.IsSpecText.{bracketed, plain}
 use Rattle.conda_spec.specs.Grammar.IsValue.{bare, quoted as in_quotes}
 use Rattle.conda_spec.specs.Grammar.IsWords.{alone, with_build}
 use Rattle.conda_spec.specs.Parts.{IsFreeWord, NoneOf, Parts, bars_build, bars_channel}
-use Rattle.conda_spec.specs.Reading.{Front, SpecRead, VersionAndBuild, bars_bare, before_equals, ends_item, quote_behind, brackets_of, build_at, build_word, channel_at, channel_cut, channel_read, clause_at, clause_value, ends_name, equal_at, equal_to, equals_cut, equals_read, followed_read, front_cut, front_read, has_key, is_comparison, is_equal_word, is_free, is_quote, is_sign, is_sign_or_equals, item_cut, item_key, item_read, items_of, items_read, joined_cut, joined_read, key_of, last_word, lead_of, named_read, nothing, number_or, parts_of, put, quoted, short_number, spaced_cut, spaced_read, spec_cut, spec_read, value_of, version_of, wanted_read, with_wanted, words_cut, words_read, without_quote}
+use Rattle.conda_spec.specs.Reading.{Front, SpecRead, VersionAndBuild, bars_bare, before_equals, ends_item, quote_behind, brackets_of, build_at, build_word, channel_at, channel_cut, channel_read, clause_at, clause_value, ends_name, equal_at, equal_to, equals_cut, equals_read, followed_read, front_cut, front_read, has_key, is_comparison, is_equal_word, is_free, is_quote, is_sign, is_sign_or_equals, item_cut, item_key, item_read, items_of, items_read, joined_cut, joined_read, key_of, last_word, lead_of, named_read, nothing, number_or, parts_of, put, quoted, spaced_cut, spaced_read, spec_cut, spec_read, value_of, version_of, wanted_read, with_wanted, words_cut, words_read, without_quote}
 use Rattle.conda_spec.proofs.LowerLaws.{Laws}
 use Rattle.conda_spec.proofs.ItemLemmas.{comma_of}
 use Rattle.conda_spec.proofs.SeamLemmas.{last_off}
@@ -560,39 +560,34 @@ last_some mark (b ∷ c ∷ cs) front h = by (without_last mark (c ∷ cs)) h (�
     by None g more = absurd (cc)
     by (Some t) g more = let same : b ∷ t ≡ front = cc in ap (λ q. b ∷ q) (more t refl) ∙ ap (λ q. q ++ mark ∷ []) same
 
-any_free : (c : ℕ) (text : List ℕ) → holds c text ≡ false → IsFreeOf c text
+any_free : (c : ℕ) (text : List ℕ) → list_any (is_byte c) text ≡ false → IsFreeOf c text
 any_free c text h = any_none (is_byte c) text h
 
+value_same : (text : List ℕ) (place v : ℕ × List ℕ) → Some place ≡ Some v → IsValue text place.1 → IsValue text v.1
+value_same text place v e h = let same : place ≡ v = cc in subst (λ (q : ℕ × List ℕ). IsValue text q.1) same h
+
+quoted_only : (at b : ℕ) (text front : List ℕ) (v : ℕ × List ℕ) (held : Bool) → is_quote b ≡ true → text ≡ front ++ b ∷ [] → list_any (is_byte b) front ≡ held
+    → option_map (λ t. (at + 1, t)) (cond held None (Some front)) ≡ Some v → IsValue (b ∷ text) v.1
+quoted_only at b text front v true q e f g = absurd (cc)
+quoted_only at b text front v false q e f g =
+    value_same (b ∷ text) (at + 1, front) v g (subst (λ w. IsValue (b ∷ w) front) (sym e) (in_quotes b front q (any_free b front f)))
+
 value_only : (at : ℕ) (text : List ℕ) (v : ℕ × List ℕ) → value_of at text ≡ Some v → IsValue text v.1
-value_only at [] v h =
-    let place : ℕ × List ℕ = (at, []) in
-    let same : place ≡ v = cc in
-    subst (λ (q : ℕ × List ℕ). IsValue [] q.1) same (bare [] tt)
+value_only at [] v h = value_same [] (at, []) v h (bare [] tt)
 value_only at (b ∷ bs) v h = by (is_quote b) refl h
   where
     text : List ℕ
     text = b ∷ bs
 
-    by_end : (o : Option (List ℕ)) → without_last b bs ≡ o → is_quote b ≡ true → option_map (λ text. (at + 1, text)) (option_and_then (without_quote b) o) ≡ Some v → IsValue text v.1
+    by_end : (o : Option (List ℕ)) → without_last b bs ≡ o → is_quote b ≡ true → option_map (λ t. (at + 1, t)) (option_and_then (without_quote b) o) ≡ Some v → IsValue text v.1
     by_end None e q g = absurd (cc)
-    by_end (Some t) e q g = by_free (holds b t) refl g
-      where
-        by_free : (k : Bool) → holds b t ≡ k → option_map (λ text. (at + 1, text)) (cond k None (Some t)) ≡ Some v → IsValue text v.1
-        by_free true f p = absurd (cc)
-        by_free false f p =
-            let place : ℕ × List ℕ = (at + 1, t) in
-            let same : place ≡ v = cc in
-            subst (λ (q : ℕ × List ℕ). IsValue text q.1) same
-            (subst (λ w. IsValue (b ∷ w) t) (sym (last_some b bs t e)) (in_quotes b t q (any_free b t f)))
+    by_end (Some t) e q g = quoted_only at b bs t v (list_any (is_byte b) t) q (last_some b bs t e) refl g
 
     by_bars : (k : Bool) → list_any bars_bare text ≡ k → cond k None (Some (at, text)) ≡ Some v → IsValue text v.1
     by_bars true e g = absurd (cc)
-    by_bars false e g =
-        let place : ℕ × List ℕ = (at, text) in
-        let same : place ≡ v = cc in
-        subst (λ (q : ℕ × List ℕ). IsValue text q.1) same (bare text (any_none bars_bare text e))
+    by_bars false e g = value_same text (at, text) v g (bare text (any_none bars_bare text e))
 
-    by : (k : Bool) → is_quote b ≡ k → cond k (option_map (λ text. (at + 1, text)) (quoted b bs)) (cond (list_any bars_bare text) None (Some (at, text))) ≡ Some v → IsValue text v.1
+    by : (k : Bool) → is_quote b ≡ k → cond k (option_map (λ t. (at + 1, t)) (quoted b bs)) (cond (list_any bars_bare text) None (Some (at, text))) ≡ Some v → IsValue text v.1
     by true e g = by_end (without_last b bs) refl e g
     by false e g = by_bars (list_any bars_bare text) refl g
 
@@ -657,10 +652,10 @@ put_only given behind keys.Build at v written value new h =
     subst (IsItem given (codes "build=" ++ written)) (ok_same after behind found.2)
     (item_build given written found.0 (is_none_of given.build new) (subst (IsValue written) free.0 value) free.1)
 put_only given behind keys.BuildNumber at v written value new h =
-    let found = bind_ok (number_or at (short_number v.1)) _ behind h in
+    let found = bind_ok (number_or at (digits_below 18446744073709551616 v.1)) _ behind h in
     let after : Given = record given { number = Some found.0 } in
     subst (IsItem given (codes "build_number=" ++ written)) (ok_same after behind found.2)
-    (item_number given written v.1 found.0 (is_none_of given.number new) value (number_some (short_number v.1) found.0 found.1))
+    (item_number given written v.1 found.0 (is_none_of given.number new) value (number_some (digits_below 18446744073709551616 v.1) found.0 found.1))
   where
     number_some : (o : Option ℕ) (n : ℕ) → number_or at o ≡ Ok n → o ≡ Some n
     number_some None n e = absurd (cc)

@@ -3,13 +3,14 @@
 use Rattle.std.specs.Prelude.{◌≡◌, ◌≢◌, ◌||◌, ◌==◌, ℕ, Bool, true, false, if◌then◌else◌, List, [], ◌∷◌, ◌++◌, codes, map, Option, None, Some, IsSome}
 use Rattle.std.specs.Char.{to_ascii_lowercase}
 use Rattle.std.specs.List.{AllByRecursion}
+use Rattle.conda_base.specs.Numbers.{digits_below}
 use Rattle.conda_base.specs.Signs.{close_bracket, comma, equals, open_bracket, slash, space}
 use Rattle.conda_base.specs.Texts.{begins_with, is_byte}
 use Rattle.conda_clause.specs.Clause.{clause_fault}
 use Rattle.conda_clause.specs.Kept.{kept}
 use Rattle.conda_spec.specs.declared.given.Given.{Given}
 use Rattle.conda_spec.specs.Parts.{IsFreeWord, NoneOf, Parts, bars_build, bars_channel, is_name_char}
-use Rattle.conda_spec.specs.Reading.{Front, bars_bare, ends_name, equal_to, is_comparison, is_quote, is_sign, is_sign_or_equals, nothing, parts_of, short_number}
+use Rattle.conda_spec.specs.Reading.{Front, bars_bare, ends_name, equal_to, is_comparison, is_quote, is_sign, is_sign_or_equals, nothing, parts_of}
 
 -- The text writes this version clause: it is the clause but for the case of its letters.
 abbrev pub Writes : List ℕ → List ℕ → Type 0
@@ -92,7 +93,7 @@ pub data IsItem : Given → List ℕ → Given → Type 0 where
       → IsItem given (codes "version=" ++ written) (record given { version = Some clause })
   build : (given : Given) (written value : List ℕ) → given.build ≡ None → IsValue written value → IsFreeWord bars_build value
       → IsItem given (codes "build=" ++ written) (record given { build = Some value })
-  build_number : (given : Given) (written value : List ℕ) (number : ℕ) → given.number ≡ None → IsValue written value → short_number value ≡ Some number
+  build_number : (given : Given) (written value : List ℕ) (number : ℕ) → given.number ≡ None → IsValue written value → digits_below 18446744073709551616 value ≡ Some number
       → IsItem given (codes "build_number=" ++ written) (record given { number = Some number })
   channel : (given : Given) (written value : List ℕ) → given.channel ≡ None → IsValue written value → IsFreeWord bars_channel value
       → IsItem given (codes "channel=" ++ written) (record given { channel = Some value })

@@ -4,8 +4,7 @@ use Rattle.std.specs.Option.{option_map, option_and_then, option_or}
 use Rattle.std.specs.Char.{to_ascii_lowercase}
 use Rattle.std.specs.Cmp.Lexicographic.{pointwise}
 use Rattle.std.specs.List.{list_any, onto_first, position_or_len, before_first}
-use Rattle.conda_version.specs.Grammar.{is_number, number_of}
-use Rattle.conda_version.specs.Text.{holds}
+use Rattle.conda_base.specs.Numbers.{digits_below}
 use Rattle.conda_clause.specs.declared.error.SpecWhy.{SpecWhy}
 use Rattle.conda_clause.specs.declared.error.SpecWhy.TheVariants.{Key, Channel, Name, Words, Build}
 use Rattle.conda_clause.specs.Clause.{beside_build, clause_fault}
@@ -15,7 +14,7 @@ use Rattle.conda_spec.specs.declared.given.Given.{Given}
 use Rattle.conda_spec.specs.declared.given.ItemKey.{ItemKey}
 use Rattle.conda_spec.specs.declared.given.ItemKey.TheVariants as keys
 use Rattle.conda_base.specs.Signs.{close_bracket, comma, double_quote, equals, open_bracket, quote, slash, space, star}
-use Rattle.conda_base.specs.Texts.{begins_with, cut_first, cut_last, ends_with}
+use Rattle.conda_base.specs.Texts.{begins_with, cut_first, cut_last, ends_with, is_byte}
 use Rattle.conda_spec.specs.Cuts.{cut_colons, without_last}
 use Rattle.conda_base.specs.Reads.{Read, ◌>>=◌, unless}
 use Rattle.conda_spec.specs.Parts.{Parts, bars_build, bars_channel, is_name_char, is_one_of}
@@ -236,7 +235,7 @@ bars_bare b = is_quote b || b == comma || b == close_bracket
 
 -- a text that holds no such mark
 abbrev pub without_quote : ℕ → List ℕ → Option (List ℕ)
-without_quote mark text = if holds mark text then None else Some text
+without_quote mark text = if list_any (is_byte mark) text then None else Some text
 
 -- what stands in quotes, of which the first stands before the text
 abbrev pub quoted : ℕ → List ℕ → Option (List ℕ)
@@ -258,10 +257,7 @@ has_key given keys.BuildNumber = is_some given.number
 has_key given keys.Channel = is_some given.channel
 has_key given keys.Subdir = is_some given.subdir
 
--- decimal digits of a number below 2 ^ 64
-abbrev pub short_number : List ℕ → Option ℕ
-short_number text = if is_number text && nat_lt (number_of text) 18446744073709551616 then Some (number_of text) else None
-
+-- a number that is wanted
 abbrev pub number_or : ℕ → Option ℕ → SpecRead ℕ
 number_or at None = Err (at, Key)
 number_or at (Some n) = Ok n
@@ -274,7 +270,7 @@ clause_value at text = clause_at (λ i. at + place_of text i) 0 0 (kept text)
 unfoldable pub put : Given → ItemKey → ℕ → ℕ × List ℕ → SpecRead Given
 put given keys.Version at value = clause_value value.0 value.1 >>= λ x. Ok (record given { version = Some x })
 put given keys.Build at value = build_at value.0 value.1 >>= λ x. Ok (record given { build = Some x })
-put given keys.BuildNumber at value = number_or at (short_number value.1) >>= λ x. Ok (record given { number = Some x })
+put given keys.BuildNumber at value = number_or at (digits_below 18446744073709551616 value.1) >>= λ x. Ok (record given { number = Some x })
 put given keys.Channel at value = channel_at value.0 value.1 >>= λ x. Ok (record given { channel = Some x })
 put given keys.Subdir at value = channel_at value.0 value.1 >>= λ x. Ok (record given { subdir = Some x })
 

@@ -8,11 +8,11 @@ ghost use Rattle.conda_spec.specs.Good.{IsGoodClause, IsVersionAndBuild, stood};
 ghost use Rattle.conda_spec.specs.Parts.{IsFreeWord, bars_build};
 ghost use Rattle.conda_spec.specs.Reading.{build_word, clause_at, equal_at, equals_read, followed_read, is_comparison, is_equal_word, is_sign, is_sign_or_equals, joined_read, lead_of, spaced_read, version_of, wanted_read, words_read};
 
-use crate::cuts::{cut_first, begins_with, behind};
+use crate::cuts::{begins_with, behind};
 use crate::places::Places;
 use crate::stay::stay;
 use crate::values::{build_at, clause_at, equal_at, fault, is_one_of};
-use conda_base::Text;
+use conda_base::{Text, cut_first};
 use conda_clause::{SpecErr, SpecWhy, VersionClause};
 use std::alloc::Global;
 
@@ -26,7 +26,7 @@ fn build_word(alloc: Global, places: &Places, start: usize, text: &str) -> Resul
     ensures read { Gives spec_fault_of result (build_word (stood places.now) start text.now) }
     ensures good { IfOk result (IsFreeWord bars_build) }
 {
-    match cut_first(text, ' ') {
+    match cut_first(text, b' ') {
         None => build_at(alloc, places.of(start), text),
         Some((build, _)) => {
             let _build = build_at(alloc, places.of(start), build)?;
@@ -41,7 +41,7 @@ fn words(alloc: Global, places: &Places, text: &str) -> Result<VersionAndBuild, 
     ensures read { Gives spec_fault_of result (words_read (stood places.now) text.now) }
     ensures good { IfOk result IsVersionAndBuild }
 {
-    match cut_first(text, ' ') {
+    match cut_first(text, b' ') {
         None => Ok((Some(clause_at(alloc, places, 0, 0, text)?), None)),
         Some((first, rest)) => {
             let clause = clause_at(alloc, places, 0, 0, first)?;
@@ -97,7 +97,7 @@ fn spaced(alloc: Global, places: &Places, text: &str) -> Result<VersionAndBuild,
     ensures read { Gives spec_fault_of result (spaced_read (stood places.now) text.now) }
     ensures good { IfOk result IsVersionAndBuild }
 {
-    match cut_first(text, ' ') {
+    match cut_first(text, b' ') {
         None => words(alloc, places, text),
         Some((first, rest)) => {
             if is_equal_word(first.as_bytes()) {
@@ -132,7 +132,7 @@ fn version_of(word: &str) -> &str
     ensures { result.now ≡ version_of word.now }
 {
     let (_, rest) = behind_lead(word);
-    match cut_first(rest, '=') {
+    match cut_first(rest, b'=') {
         None => rest,
         Some((version, _)) => version,
     }
@@ -164,7 +164,7 @@ fn joined(alloc: Global, places: &Places, word: &str) -> Result<VersionAndBuild,
     ensures good { IfOk result IsVersionAndBuild }
 {
     let (lead, rest) = behind_lead(word);
-    match cut_first(rest, '=') {
+    match cut_first(rest, b'=') {
         None => Ok((Some(clause_at(alloc, places, 0, 0, word)?), None)),
         Some((version, build)) => {
             let clause = joined_clause(alloc, places, lead, version)?;
@@ -181,7 +181,7 @@ fn equals(alloc: Global, places: &Places, text: &str) -> Result<VersionAndBuild,
     ensures read { Gives spec_fault_of result (equals_read (stood places.now) text.now) }
     ensures good { IfOk result IsVersionAndBuild }
 {
-    match cut_first(text, ' ') {
+    match cut_first(text, b' ') {
         None => {
             if holds_sign(version_of(text).as_bytes()) {
                 words(alloc, places, text)

@@ -7,11 +7,11 @@ ghost use Rattle.conda_spec.specs.Good.{IsFront, IsGiven};
 ghost use Rattle.conda_spec.specs.Parts.{is_name_char};
 ghost use Rattle.conda_spec.specs.Reading.{channel_read, ends_name, front_read, named_read};
 
-use crate::cuts::{cut_colons, cut_first};
+use crate::cuts::cut_colons;
 use crate::follow::followed;
 use crate::given::{Given, nothing, with_wanted};
 use crate::values::{channel_at, fault, is_one_of};
-use conda_base::Text;
+use conda_base::{Text, cut_first};
 use conda_clause::{SpecErr, SpecWhy};
 use std::alloc::{AllocError, Global};
 
@@ -82,7 +82,7 @@ fn channel(alloc: Global, text: &str) -> Result<Given, SpecErr>
     ensures good { IfOk result IsGiven }
 {
     let mut given = nothing();
-    match cut_first(text, '/') {
+    match cut_first(text, b'/') {
         None => {
             given.channel = Some(channel_at(alloc, 0, text)?);
             Ok(given)

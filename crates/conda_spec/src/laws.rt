@@ -5,7 +5,7 @@ ghost use Rattle.conda_spec.specs.Parts.{IsSpec, Parts};
 ghost use Rattle.conda_spec.specs.Reading.{spec_read};
 ghost use Rattle.conda_spec.specs.Text.{spec_text};
 
-use conda_base::cut_laws;
+use conda_base::{cut_laws, number_laws};
 use conda_clause::clause_laws;
 
 /// The texts that are read are those of the grammar, and no others, each with the parts that the grammar gives it. So each text of
@@ -15,6 +15,7 @@ pub fn grammar_laws()
     ensures all { (text : List ℕ) (parts : Parts) → IsSpecText text parts → spec_read text ≡ Ok parts }
 {
     cut_laws();
+    number_laws();
     clause_laws();
 }
 
@@ -23,5 +24,6 @@ pub fn normal_form_law()
     ensures { (parts : Parts) → IsSpec parts → spec_read (trimmed (spec_text parts)) ≡ Ok parts }
 {
     cut_laws();
+    number_laws();
     clause_laws();
 }

@@ -1,5 +1,4 @@
-ghost use Rattle.std.specs.Prelude.{◌≡◌, ◌+◌, IfOk, IfSome, IsSome, None, length};
-ghost use Rattle.std.specs.Option.{option_map};
+ghost use Rattle.std.specs.Prelude.{◌≡◌, ◌+◌, IfOk, IfSome, IsSome, MatchOption, None, Some, length};
 ghost use Rattle.conda_clause.specs.Clause.{beside_build};
 ghost use Rattle.conda_base.specs.Reads.{Gives};
 ghost use Rattle.conda_clause.specs.Faults.{spec_fault_of};
@@ -7,21 +6,21 @@ ghost use Rattle.conda_spec.specs.Good.{IsGoodClause, IsFront, IsGiven};
 ghost use Rattle.conda_spec.specs.Parts.{IsSpec};
 ghost use Rattle.conda_spec.specs.Reading.{brackets_of, parts_of, spec_read, version_beside};
 
-use crate::cuts::{cut_last, without_last};
+use crate::cuts::without_last;
 use crate::given::{Given, nothing};
 use crate::head::{Front, front};
 use crate::items::items;
 use crate::spec::Spec;
-use conda_base::Text;
+use conda_base::{Text, cut_last};
 use conda_clause::{SpecErr, VersionClause};
 use std::alloc::{AllocError, Global};
 
 // What stands before the brackets, and what stands in them.
 fn brackets_of(text: &str) -> Option<(&str, &str)>
-    ensures cut { option_map (λ x. (x.0.now, x.1.now)) result ≡ brackets_of text.now }
+    ensures cut { MatchOption result (brackets_of text.now ≡ None) (λ x. brackets_of text.now ≡ Some (x.0.now, x.1.now)) }
     ensures len { IfSome result (λ x. length x.0.now + length x.1.now + 2 ≡ length text.now) }
 {
-    cut_last(without_last(text, ']')?, '[')
+    cut_last(without_last(text, ']')?, b'[')
 }
 
 // Where a build is given, a version is too, in the form that it has beside a build.

@@ -1,5 +1,8 @@
 ghost use Rattle.std.specs.Prelude.{◌≡◌, IfOk};
-ghost use Rattle.conda_version.specs.Text.{holds, trimmed};
+ghost use Rattle.std.specs.List.{list_any};
+ghost use Rattle.conda_base.specs.Signs.{star};
+ghost use Rattle.conda_base.specs.Texts.{is_byte};
+ghost use Rattle.conda_version.specs.Text.{trimmed};
 ghost use Rattle.conda_base.specs.Reads.{Gives};
 ghost use Rattle.conda_clause.specs.Faults.{spec_fault_of};
 ghost use Rattle.conda_spec.specs.Parts.{IsSpec};
@@ -51,7 +54,7 @@ impl Spec {
 
     /// Whether the name holds a star, which stands for any characters.
     pub fn has_glob(&self) -> bool
-        ensures { result ≡ holds 42 self.now.name }
+        ensures { result ≡ list_any (is_byte star) self.now.name }
     {
         self.name.as_str().as_bytes().contains(&b'*')
     }
