@@ -1,12 +1,11 @@
 -- The brackets of a normal form are brackets of the grammar.
-use Rattle.std.proofs.Common.{◌≡◌, ◌≢◌, ◌==◌, ◌<◌, ℕ, subst, ◌+◌, ◌-◌, ◌*◌, Bool, true, false, true≢false, cond, length, List, [], ◌∷◌, ◌++◌, refl, sym, ap, ◌∙◌, arith, append_assoc}
+use Rattle.std.proofs.Common.{◌≡◌, ◌<◌, ℕ, subst, Bool, true, false, true≢false, cond, List, [], ◌∷◌, ◌++◌, refl, sym, ap, arith, append_assoc}
 use Rattle.std.proofs.lemmas.Bool.Decides.{nat_tests}
 use Rattle.std.specs.Cmp.{first_so, second_so}
 use Rattle.std.specs.Str.{all_ascii_digits}
-use Rattle.std.specs.Prelude.{None, Some, IfSome, nat_lt, fold, Option, codes}
+use Rattle.std.specs.Prelude.{None, Some, IfSome, Option, codes}
 use Rattle.std.specs.Char.{is_ascii_digit}
 use Rattle.std.specs.Fmt.{decimal}
-use Rattle.std.specs.List.{list_all}
 use Rattle.conda_base.specs.Signs.{open_bracket}
 use Rattle.conda_base.specs.Texts.{IsFreeOf, is_byte}
 use Rattle.conda_base.specs.Numbers.{digits_below, has_leading_zero, is_digits}

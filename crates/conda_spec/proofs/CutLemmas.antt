@@ -1,12 +1,10 @@
 -- Cuts of a text, as std's methods give them.
 use Rattle.std.proofs.Common.{◌≡◌, ◌≢◌, ◌==◌, ◌&&◌, ◌≤◌, ◌<◌, ◌+◌, ◌⊎◌, ℕ, Bool, true, false, cond, length, List, [], ◌∷◌, ◌++◌, take, drop, get_or, refl, sym, ap, ◌∙◌, arith, true≢false, Option, Some, None, MatchOption, inl, inr, suc, zero, Bor}
 use Rattle.std.specs.Option.{option_map}
-use Rattle.std.specs.List.{before_first, after_first, position_or_len}
-use Rattle.std.specs.Str.Pattern.{FindsText, RFindsChar}
+use Rattle.std.specs.Str.Pattern.{FindsText}
 use Rattle.std.proofs.lemmas.Bool.{eqb-true, eq-eqb}
 use Rattle.std.proofs.lemmas.Bool.Decides.{eqb_tells}
-use Rattle.std.proofs.lemmas.Str.Pattern.{IsSplitOnceResult, NoCharPasses-char, drop_at_char, split_once_first}
-use Rattle.conda_base.specs.Texts.{begins_with, cut_behind, cut_first, cut_last, in_front}
+use Rattle.conda_base.specs.Texts.{begins_with, in_front}
 use Rattle.conda_spec.specs.Cuts.{cut_colons, without_last}
 
 same_test : (b : ℕ) → (b == b) ≡ true

@@ -1,20 +1,19 @@
 -- Every text of the grammar is read, with its parts.
-use Rattle.std.proofs.Common.{◌≡◌, ◌≢◌, ◌↔◌, ◌≤◌, ◌<◌, ℕ, subst, suc, zero, true≢false, ◌+◌, ◌-◌, Bool, true, false, cond, not, length, List, [], ◌∷◌, ◌++◌, map, take, drop, refl, sym, ap, ◌∙◌, arith, append-nil, append_assoc, Option, Some, None, Ok, Err}
-use Rattle.std.proofs.lemmas.Bool.{eq-eqb, eqb-true, not-true}
+use Rattle.std.proofs.Common.{◌≡◌, ◌≢◌, ℕ, subst, true≢false, ◌+◌, ◌-◌, Bool, true, false, cond, length, List, [], ◌∷◌, ◌++◌, map, take, drop, refl, sym, ap, ◌∙◌, arith, append-nil, append_assoc, Option, Some, None, Ok, Err}
+use Rattle.std.proofs.lemmas.Bool.{eq-eqb, eqb-true}
 use Rattle.std.proofs.lemmas.Bool.Decides.{nat_tests}
 use Rattle.std.proofs.Math.Bool.{or-true}
 use Rattle.std.proofs.Math.Seq.{take-append_seam, drop-append_seam}
 use Rattle.std.specs.Cmp.{first_so, second_so}
 use Rattle.std.specs.Char.{to_ascii_lowercase}
-use Rattle.std.specs.List.{list_all, list_any, onto_first, position_or_len, before_first}
+use Rattle.std.specs.List.{list_all, list_any, onto_first, position_or_len}
 use Rattle.std.specs.Option.{option_map, option_and_then}
-use Rattle.std.specs.Prelude.{codes, is_some, IsSome, nat_lt, ◌==◌, ◌&&◌, ◌||◌}
+use Rattle.std.specs.Prelude.{codes, is_some, IsSome, ◌==◌, ◌&&◌, ◌||◌}
 use Rattle.conda_base.specs.Reads.{◌>>=◌, unless}
 use Rattle.conda_base.specs.Signs.{close_bracket, colon, comma, equals, open_bracket, slash, space}
 use Rattle.conda_base.specs.Texts.{IsFreeOf, begins_with, cut_first, cut_last, ends_with, in_front, is_byte}
-use Rattle.conda_base.specs.Numbers.{digits_below}
 use Rattle.conda_clause.specs.declared.error.SpecWhy.{SpecWhy}
-use Rattle.conda_clause.specs.declared.error.SpecWhy.TheVariants.{Build, Channel, Key, Name, Words}
+use Rattle.conda_clause.specs.declared.error.SpecWhy.TheVariants.{Key, Name, Words}
 use Rattle.conda_clause.specs.Clause.{clause_fault, is_clause_char}
 use Rattle.conda_clause.specs.Faults.{place_of}
 use Rattle.conda_clause.specs.Kept.{is_joint, kept}
@@ -33,7 +32,7 @@ use Rattle.conda_spec.specs.Grammar.IsSpecText.{bracketed, plain}
 use Rattle.conda_spec.specs.Grammar.IsValue.{bare, quoted as in_quotes}
 use Rattle.conda_spec.specs.Grammar.IsWords.{alone, with_build}
 use Rattle.conda_spec.specs.Parts.{IsFreeWord, NoneOf, Parts, bars_build, bars_channel}
-use Rattle.conda_spec.specs.Reading.{Front, SpecRead, VersionAndBuild, bars_bare, before_equals, ends_item, quote_behind, brackets_of, build_at, build_word, channel_at, channel_cut, channel_read, clause_at, clause_value, ends_name, equal_at, equal_to, equals_cut, equals_read, followed_read, front_cut, front_read, has_key, is_comparison, is_equal_word, is_free, is_quote, is_sign, is_sign_or_equals, item_cut, item_key, item_read, items_of, items_read, joined_cut, joined_read, key_of, last_word, lead_of, named_read, nothing, number_or, parts_of, put, quoted, spaced_cut, spaced_read, spec_cut, spec_read, value_of, version_of, wanted_read, with_wanted, words_cut, words_read, without_quote}
+use Rattle.conda_spec.specs.Reading.{Front, SpecRead, VersionAndBuild, bars_bare, before_equals, brackets_of, build_at, build_word, channel_at, channel_cut, channel_read, clause_at, clause_value, ends_name, equal_at, equal_to, equals_cut, equals_read, followed_read, front_cut, front_read, has_key, is_comparison, is_equal_word, is_free, is_quote, is_sign, is_sign_or_equals, item_key, item_read, items_of, items_read, joined_cut, joined_read, last_word, named_read, nothing, number_or, parts_of, put, quoted, spaced_cut, spaced_read, spec_cut, spec_read, value_of, version_of, wanted_read, with_wanted, words_cut, words_read, without_quote}
 use Rattle.conda_spec.proofs.LowerLaws.{Laws}
 use Rattle.conda_spec.proofs.OnlyLemmas.{any_none, equal_word, last_some, none_any}
 use Rattle.conda_spec.proofs.PieceLemmas.{fewer, first_place, no_place, none_in_both}

@@ -1,9 +1,7 @@
 -- Items in the brackets.
-use Rattle.std.proofs.Common.{◌≡◌, ◌≤◌, ◌<◌, ◌+◌, ◌-◌, ◌*◌, ◌&&◌, ℕ, Bool, true, false, cond, length, List, [], ◌∷◌, take, drop, get_or, refl, sym, ap, ◌∙◌, arith, true≢false, suc, Option, Some, None, IfSome, Result, Ok, Err}
-use Rattle.std.specs.Char.{is_ascii_digit}
-use Rattle.std.specs.List.{fold, list_all, onto_first}
-use Rattle.std.proofs.Math.Dec.{ltb}
-use Rattle.std.proofs.lemmas.Bool.{eqb-true, lt-ltb, le-ltb}
+use Rattle.std.proofs.Common.{◌≡◌, ◌<◌, ◌+◌, ℕ, Bool, true, false, cond, length, List, [], ◌∷◌, take, drop, get_or, refl, sym, ap, ◌∙◌, arith, true≢false, suc, Option, Some, None, IfSome, Result, Ok, Err}
+use Rattle.std.specs.List.{onto_first}
+use Rattle.std.proofs.lemmas.Bool.{eqb-true}
 use Rattle.conda_clause.specs.declared.error.SpecErr.{SpecErr}
 use Rattle.conda_clause.specs.declared.error.SpecErr.TheVariants.{BadSpec, Memory}
 use Rattle.conda_spec.specs.declared.given.Given.{Given}

@@ -1,5 +1,5 @@
 -- The normal form of a specification is a text of the grammar, of the same parts, and has no spaces at its ends.
-use Rattle.std.proofs.Common.{◌≡◌, ◌≢◌, ℕ, subst, true≢false, ◌+◌, Bool, true, false, length, List, [], ◌∷◌, ◌++◌, map, refl, sym, ap, ◌∙◌, arith, append-nil, append_assoc}
+use Rattle.std.proofs.Common.{◌≡◌, ◌≢◌, ℕ, subst, true≢false, true, false, length, List, [], ◌∷◌, ◌++◌, refl, sym, ap, ◌∙◌, arith, append-nil, append_assoc}
 use Rattle.std.proofs.lemmas.Bool.{eq-eqb}
 use Rattle.std.proofs.lemmas.Bool.Decides.{nat_tests}
 use Rattle.std.specs.Prelude.{None, Some, IfSome, IsSome, Ok, Option, codes}

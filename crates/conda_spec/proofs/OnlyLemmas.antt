@@ -1,5 +1,5 @@
 -- What is read is a text of the grammar, with the parts that are read.
-use Rattle.std.proofs.Common.{◌≡◌, ◌≢◌, ◌↔◌, ◌≤◌, ◌<◌, ◌⊎◌, inl, inr, ℕ, subst, suc, zero, true≢false, ◌+◌, ◌-◌, Bool, true, false, cond, not, length, List, [], ◌∷◌, ◌++◌, map, take, drop, refl, sym, ap, ◌∙◌, arith, append_assoc, Option, Some, None, Ok, Err}
+use Rattle.std.proofs.Common.{◌≡◌, ◌≢◌, ℕ, subst, suc, zero, true≢false, ◌+◌, ◌-◌, Bool, true, false, cond, not, length, List, [], ◌∷◌, ◌++◌, map, take, drop, refl, sym, ap, ◌∙◌, arith, append_assoc, Option, Some, None, Ok, Err}
 use Rattle.std.proofs.lemmas.Bool.{eq-eqb, eqb-true, not-true}
 use Rattle.std.proofs.lemmas.Bool.Decides.{nat_tests}
 use Rattle.std.proofs.lemmas.List.{take-append-drop}
@@ -8,8 +8,8 @@ use Rattle.std.specs.Char.{to_ascii_lowercase}
 use Rattle.std.specs.Cmp.Lexicographic.{bytes_decides, pointwise}
 use Rattle.std.specs.List.{list_any, onto_first, position_or_len, before_first}
 use Rattle.std.specs.Option.{option_map, option_and_then}
-use Rattle.std.specs.Prelude.{codes, is_some, IsSome, nat_eq, nat_lt, ◌==◌, ◌&&◌, ◌||◌}
-use Rattle.conda_base.specs.Reads.{◌>>=◌, unless}
+use Rattle.std.specs.Prelude.{codes, is_some, nat_eq, nat_lt, ◌==◌, ◌&&◌, ◌||◌}
+use Rattle.conda_base.specs.Reads.{◌>>=◌}
 use Rattle.conda_base.specs.Signs.{close_bracket, colon, comma, equals, open_bracket, slash, space}
 use Rattle.conda_base.specs.Texts.{IsFreeOf, begins_with, cut_first, cut_last, ends_with, in_front, is_byte}
 use Rattle.conda_base.specs.Numbers.{digits_below}

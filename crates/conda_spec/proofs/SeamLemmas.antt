@@ -1,10 +1,10 @@
 -- Lemmas on where a text is cut in two.
 use Rattle.conda_spec.specs.Parts.{NoneOf}
-use Rattle.std.proofs.Common.{◌≡◌, ◌==◌, ℕ, Bool, true, List, [], ◌∷◌, ◌++◌, refl, ap, ◌∙◌, arith}
+use Rattle.std.proofs.Common.{◌≡◌, ◌==◌, ℕ, Bool, true, List, [], ◌∷◌, ◌++◌, refl, ap, arith}
 use Rattle.std.proofs.lemmas.Bool.Decides.{nat_tests}
-use Rattle.std.specs.Prelude.{None, Some}
+use Rattle.std.specs.Prelude.{Some}
 use Rattle.std.specs.Option.{option_map}
-use Rattle.conda_base.specs.Texts.{cut_behind, cut_first, cut_last, in_front}
+use Rattle.conda_base.specs.Texts.{in_front}
 use Rattle.conda_spec.specs.Cuts.{cut_colons, without_last}
 
 

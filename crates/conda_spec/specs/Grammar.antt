@@ -1,15 +1,14 @@
 -- Which texts are specifications, and which parts each of them gives: conda's match_spec.py, in this project's profile. Nothing here
 -- knows of places or of an order in which a text is read.
-use Rattle.std.specs.Prelude.{◌≡◌, ◌≢◌, ◌||◌, ◌==◌, ℕ, Bool, true, false, if◌then◌else◌, List, [], ◌∷◌, ◌++◌, codes, map, Option, None, Some, IsSome}
+use Rattle.std.specs.Prelude.{◌≡◌, ◌≢◌, ℕ, Bool, true, false, List, [], ◌∷◌, ◌++◌, codes, map, Option, None, Some, IsSome}
 use Rattle.std.specs.Char.{to_ascii_lowercase}
-use Rattle.std.specs.List.{AllByRecursion}
 use Rattle.conda_base.specs.Numbers.{digits_below}
 use Rattle.conda_base.specs.Signs.{close_bracket, comma, equals, open_bracket, slash, space}
 use Rattle.conda_base.specs.Texts.{begins_with, is_byte}
 use Rattle.conda_clause.specs.Clause.{clause_fault}
 use Rattle.conda_clause.specs.Kept.{kept}
 use Rattle.conda_spec.specs.declared.given.Given.{Given}
-use Rattle.conda_spec.specs.Parts.{IsFreeWord, NoneOf, Parts, bars_build, bars_channel, is_name_char}
+use Rattle.conda_spec.specs.Parts.{IsFreeWord, NoneOf, Parts, bars_build, bars_channel}
 use Rattle.conda_spec.specs.Reading.{Front, bars_bare, ends_name, equal_to, is_comparison, is_quote, is_sign, is_sign_or_equals, nothing, parts_of}
 
 -- The text writes this version clause: it is the clause but for the case of its letters.

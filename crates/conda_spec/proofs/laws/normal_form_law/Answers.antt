@@ -1,4 +1,3 @@
-use Rattle.conda_spec.proofs.LowerLaws.{Laws}
 use Rattle.conda_spec.proofs.LawLemmas.{read_again}
 use Rattle.conda_spec.proofs.laws.normal_form_law.Goals as goal
 

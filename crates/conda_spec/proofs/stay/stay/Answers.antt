@@ -1,4 +1,4 @@
-use Rattle.std.proofs.Common.{◌≡◌, ◌+◌, ◌<◌, ◌≤◌, ℕ, List, length, ap, sym, subst, ◌∙◌, arith, unwrap_or}
+use Rattle.std.proofs.Common.{◌≡◌, ◌≤◌, ℕ, List, length, ap, arith, unwrap_or}
 use Rattle.std.specs.List.{slice_get}
 use Rattle.conda_clause.specs.Faults.{place_of}
 use Rattle.conda_spec.proofs.stay.stay.Goals as goal
