@@ -20,7 +20,6 @@ use Rattle.conda_clause.specs.Clause.{after, beside_build, clause_fault, fault_f
 use Rattle.conda_clause.specs.Pieces.{is_mark, pieces, token_of, tokens}
 use Rattle.conda_clause.specs.Tests.{ends_with, is_any, shortened, sign_len, sign_of, test_of, test_with, version_text, without_star}
 
-
 -- What a piece and a fault are.
 
 token_is_test : (b : ℕ) (bs : List ℕ) → is_mark b ≡ false → token_of (b ∷ bs) ≡ option_map token.Test (test_of (b ∷ bs))

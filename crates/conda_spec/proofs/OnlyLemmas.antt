@@ -452,8 +452,7 @@ named_only l given at text found h =
     let is : IsNamed (take n text ++ drop n text) (map to_ascii_lowercase (take n text)) next.0.0 next.0.1 =
     named (take n text) (drop n text) next.0.0 next.0.1 (some_run text t.0) run.free run.ends (followed_only l (at + n) (drop n text) next.0 next.1)
     in
-    let given_front : Front = (map to_ascii_lowercase (take n text), with_wanted given next.0) in
-    (
+    let given_front : Front = (map to_ascii_lowercase (take n text), with_wanted given next.0) in (
       map to_ascii_lowercase (take n text),
       next.0,
       ok_same given_front found next.2,

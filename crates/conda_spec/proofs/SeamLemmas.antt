@@ -7,7 +7,6 @@ use Rattle.std.specs.Option.{option_map}
 use Rattle.conda_base.specs.Texts.{in_front}
 use Rattle.conda_spec.specs.Cuts.{cut_colons, without_last}
 
-
 -- this very character
 abbrev pub is_this : ℕ → ℕ → Bool
 is_this mark b = b == mark

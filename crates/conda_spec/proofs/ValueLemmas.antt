@@ -22,10 +22,6 @@ pub free_is : (bars : ℕ → Bool) (text : List ℕ) → 0 < length text → li
 free_is bars [] h none = absurd (omega (arith, h))
 free_is bars (b ∷ rest) h none = (λ e. cc, all_free bars (b ∷ rest) none)
 
-pub not_true : (b : Bool) → not b ≡ true → b ≡ false
-not_true true h = sym h
-not_true false h = refl
-
 lower_twice : (b : ℕ) → to_ascii_lowercase (to_ascii_lowercase b) ≡ to_ascii_lowercase b
 lower_twice b = grind (arith, nat_tests)
 

@@ -90,7 +90,8 @@ fn holds(b: u8, text: &[u8]) -> bool
 fn holds_barred(text: &[u8]) -> bool
     ensures { result ≡ list_any bars_bare text.now }
 {
-    text.iter().any(|b| is_quote(*b) || *b == b',' || *b == b']')
+    text.iter()
+        .any(|b| is_quote(*b) || *b == b',' || *b == b']')
 }
 
 // A value in quotes, of which the first is known.

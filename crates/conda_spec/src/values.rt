@@ -26,42 +26,19 @@ pub fn fault(at: usize, why: SpecWhy) -> SpecErr
     SpecErr::BadSpec { at, why }
 }
 
-fn bars_channel(b: u8) -> bool
-    ensures { result ≡ bars_channel b }
+/// Whether a text holds one of these.
+pub fn holds_one_of(signs: &[u8], text: &[u8]) -> bool
+    ensures { result ≡ list_any (is_one_of signs.now) text.now }
 {
-    is_one_of(b" '\",[]:/", b)
+    text.iter().any(|b| is_one_of(signs, *b))
 }
 
-fn bars_build(b: u8) -> bool
-    ensures { result ≡ bars_build b }
+// Not empty, and of none of these.
+fn is_free(barred: &[u8], text: &[u8]) -> bool
+    ensures value { result ≡ is_free (is_one_of barred.now) text.now }
+    ensures good { result ≡ true → IsFreeWord (is_one_of barred.now) text.now }
 {
-    is_one_of(b" '\",|:[]", b)
-}
-
-fn holds_barred_by_channel(text: &[u8]) -> bool
-    ensures { result ≡ list_any bars_channel text.now }
-{
-    text.iter().any(|b| bars_channel(*b))
-}
-
-fn is_channel(text: &[u8]) -> bool
-    ensures value { result ≡ is_free bars_channel text.now }
-    ensures good { result ≡ true → IsFreeWord bars_channel text.now }
-{
-    0 < text.len() && !holds_barred_by_channel(text)
-}
-
-fn holds_barred_by_build(text: &[u8]) -> bool
-    ensures { result ≡ list_any bars_build text.now }
-{
-    text.iter().any(|b| bars_build(*b))
-}
-
-fn is_build(text: &[u8]) -> bool
-    ensures value { result ≡ is_free bars_build text.now }
-    ensures good { result ≡ true → IsFreeWord bars_build text.now }
-{
-    0 < text.len() && !holds_barred_by_build(text)
+    0 < text.len() && !holds_one_of(barred, text)
 }
 
 /// A channel or a subdir.
@@ -70,7 +47,7 @@ pub fn channel_at(alloc: Global, at: usize, text: &str) -> Result<Text, SpecErr>
     ensures read { Gives spec_fault_of result (channel_at at text.now) }
     ensures good { IfOk result (IsFreeWord bars_channel) }
 {
-    if !is_channel(text.as_bytes()) {
+    if !is_free(b" '\",[]:/", text.as_bytes()) {
         return Err(fault(at, SpecWhy::Channel));
     }
     Ok(Text::from_str(alloc, text)?)
@@ -81,7 +58,7 @@ pub fn build_at(alloc: Global, at: usize, text: &str) -> Result<Text, SpecErr>
     ensures read { Gives spec_fault_of result (build_at at text.now) }
     ensures good { IfOk result (IsFreeWord bars_build) }
 {
-    if !is_build(text.as_bytes()) {
+    if !is_free(b" '\",|:[]", text.as_bytes()) {
         return Err(fault(at, SpecWhy::Build));
     }
     Ok(Text::from_str(alloc, text)?)
