@@ -1,173 +1,87 @@
--- Lemmas on how a clause begins and ends.
-use Rattle.std.proofs.Common.{◌≡◌, ℕ, zero, suc, ◌+◌, ◌-◌, ◌≤◌, Bool, true, false, not, nat_eq, List, [], ◌∷◌, ◌++◌, length, take, drop, Option, None, Some, refl, sym, ap, ◌∙◌, arith, length-drop, append-nil, true≢false}
+-- Lemmas on the characters of a clause, and on how it begins and ends.
+use Rattle.std.proofs.Common.{◌≡◌, ℕ, zero, suc, ◌+◌, ◌<◌, Bool, true, false, List, [], ◌∷◌, ◌++◌, length, take, drop, None, Some, refl, sym, ap, ◌∙◌, arith, append_assoc, true≢false}
+use Rattle.std.proofs.lemmas.Bool.Decides.{nat_tests}
 use Rattle.std.proofs.lemmas.List.{take-append-drop}
 use Rattle.std.proofs.lemmas.List.Folds.{list_all-append}
-use Rattle.std.specs.Prelude.{if◌then◌else◌, ◌==◌, ◌&&◌, is_some, option_and_then, slice_get}
-use Rattle.std.specs.List.{list_all, onto_first, prefix_len}
-use Rattle.std.specs.Option.{option_map, option_map_or}
-use Rattle.conda_clause.specs.declared.reading.Wanted.{Wanted}
-use Rattle.conda_clause.specs.declared.reading.Wanted.TheVariants.{Atom, Joint}
-use Rattle.conda_clause.specs.declared.test.Sign.{Sign}
-use Rattle.conda_clause.specs.declared.test.Test.{Test}
-use Rattle.conda_clause.specs.declared.test.Test.TheVariants.{Any}
-use Rattle.conda_clause.specs.declared.token.Token.TheVariants as token
-use Rattle.conda_clause.specs.Clause.{clause_fault, fault_from, step}
-use Rattle.conda_clause.specs.Pieces.{begins_test, is_mark, piece_len, pieces, token_of}
-use Rattle.conda_clause.specs.Tests.{ends_with, is_any, is_equal_sign, is_version_char, sign_len, sign_of, signed, test_of, test_with, version_text, without_star}
-use Rattle.conda_clause.proofs.BesideLemmas.{and_both, free, free_token, is_beside, test_equal, unlike, version_text_some}
-use Rattle.conda_clause.proofs.FaultLemmas.{after_none, ends_split, left_none, no_bar, no_comma, or_here, star_all, step_some}
-use Rattle.conda_clause.proofs.PieceLemmas.{free_len, pieces_first}
-use Rattle.conda_clause.proofs.TestLemmas.{all_more, and_left, and_right, version_chars}
+use Rattle.std.specs.Prelude.{◌==◌, ◌&&◌, ◌||◌}
+use Rattle.std.specs.List.{list_all}
+use Rattle.conda_base.specs.Signs.{bar, close_paren, comma, equals, greater, less, open_paren}
+use Rattle.conda_base.specs.Texts.{ends_with}
+use Rattle.conda_clause.specs.Clause.{clause_fault, is_clause_char}
+use Rattle.conda_clause.specs.Tests.{sign_len, sign_of, signed}
+use Rattle.conda_clause.specs.Tree.{Rank, Tree, Writes}
+use Rattle.conda_clause.specs.Tree.Tree.{both, either, parens, part, single, test}
+use Rattle.conda_clause.proofs.FaultLemmas.{no_bar, no_comma}
+use Rattle.conda_clause.proofs.FormLemmas.{ends_at, is_beside, is_test_char, table_read, test_body, test_chars}
+use Rattle.conda_clause.proofs.GrammarLemmas.{clause_only}
+use Rattle.conda_clause.proofs.TestLemmas.{NoDotEnd, all_more, and_both, and_left, and_right, unlike}
 
-last_char : (k x : ℕ) (xs : List ℕ) → ends_with k (x ∷ xs) ≡ option_map_or (λ b. b == k) (slice_get (x ∷ xs) (length xs)) false
-last_char k x xs =
-    let e : length (x ∷ xs) - 1 ≡ length xs = omega arith in
-    ap (λ n. option_map_or (λ b. b == k) (slice_get (x ∷ xs) n) false) e
+clause_char : (b : ℕ) → is_test_char b ≡ true → is_clause_char b ≡ true
+clause_char b h = grind (arith, nat_tests)
 
-ends_more : (k x y : ℕ) (ys : List ℕ) → ends_with k (x ∷ y ∷ ys) ≡ ends_with k (y ∷ ys)
-ends_more k x y ys = last_char k x (y ∷ ys) ∙ sym (last_char k y ys)
+joint_chars : (s : List ℕ) (m : ℕ) (t : List ℕ) → is_clause_char m ≡ true → list_all is_clause_char s ≡ true → list_all is_clause_char t ≡ true
+    → list_all is_clause_char (s ++ m ∷ t) ≡ true
+joint_chars s m t h f g =
+    list_all-append is_clause_char s (m ∷ t)
+    ∙ and_both (list_all is_clause_char s) (list_all is_clause_char (m ∷ t)) f (and_both (is_clause_char m) (list_all is_clause_char t) h g)
 
--- a text ends as what stands at its end
-ends_append : (k : ℕ) (xs : List ℕ) (y : ℕ) (ys : List ℕ) → ends_with k (xs ++ y ∷ ys) ≡ ends_with k (y ∷ ys)
-ends_append k [] y ys = refl
-ends_append k (x ∷ []) y ys = ends_more k x y ys
-ends_append k (x ∷ z ∷ zs) y ys = ends_more k x z (zs ++ y ∷ ys) ∙ ends_append k (z ∷ zs) y ys
+writes_chars : (law : NoDotEnd) {rank : Rank} (tree : Tree rank) (text : List ℕ) → Writes tree text → list_all is_clause_char text ≡ true
+writes_chars law (part p) text h = writes_chars law p text h
+writes_chars law (either p more) text h = ap (list_all is_clause_char) h.2 ∙ joint_chars h.0 bar h.1 refl (writes_chars law p h.0 h.3) (writes_chars law more h.1 h.4)
+writes_chars law (single a) text h = writes_chars law a text h
+writes_chars law (both a more) text h = ap (list_all is_clause_char) h.2 ∙ joint_chars h.0 comma h.1 refl (writes_chars law a h.0 h.3) (writes_chars law more h.1 h.4)
+writes_chars law (test t) text h = all_more is_test_char is_clause_char clause_char text (test_chars text t (table_read law text t h))
+writes_chars law (parens inside) text h =
+    ap (list_all is_clause_char) h.1
+    ∙ joint_chars [] open_paren (h.0 ++ close_paren ∷ []) refl refl (joint_chars h.0 close_paren [] refl (writes_chars law inside h.0 h.2) refl)
 
-never_ends : (p : ℕ → Bool) (k : ℕ) (xs : List ℕ) → list_all p xs ≡ true → p k ≡ false → ends_with k xs ≡ false
-never_ends p k xs h f = by_end (ends_with k xs) refl
-  where
-    by_end : (j : Bool) → ends_with k xs ≡ j → j ≡ false
-    by_end false e = refl
-    by_end true e =
-        let front : List ℕ = take (length xs - 1) xs in
-        let both : (list_all p front && (p k && true)) ≡ true = sym (ap (list_all p) (ends_split k xs e) ∙ list_all-append p front (k ∷ [])) ∙ h in
-        let at_end = and_left (p k) true (and_right (list_all p front) (p k && true) both) in
-        absurd (true≢false (sym at_end ∙ f))
+-- each character of a clause is one that a clause may hold
+pub clause_chars : (law : NoDotEnd) (text : List ℕ) → clause_fault text ≡ None → list_all is_clause_char text ≡ true
+clause_chars law text h = let is = clause_only text h in writes_chars law is.0 text is.1
 
-any_beside : (sign : Sign) (xs : List ℕ) → is_any sign xs ≡ true → list_all is_beside xs ≡ true
-any_beside sign [] h = refl
-any_beside sign (c ∷ []) h =
-    let star = and_left (nat_eq c 42) true (and_right (is_equal_sign sign) (nat_eq c 42 && true) h) in
-    and_both (is_beside c) true (ap is_beside (test_equal c 42 star)) refl
-any_beside sign (c ∷ d ∷ ds) h =
-    let star = and_right (nat_eq c 42) false (and_right (is_equal_sign sign) (nat_eq c 42 && false) h) in
-    absurd cc
+-- a character at the end of a clause
+abbrev is_last : ℕ → Bool
+is_last b = is_beside b || b == close_paren
 
--- behind the sign of a test stand characters of a version and stars
-pub signed_beside : (p : List ℕ) (t : Test) → test_of p ≡ Some t → list_all is_beside (signed p) ≡ true
-signed_beside p t h = by_any (is_any (sign_of p) (signed p)) refl (version_text (without_star (signed p))) refl h
-  where
-    by_any : (k : Bool) → is_any (sign_of p) (signed p) ≡ k → (o : Option (List ℕ)) → version_text (without_star (signed p)) ≡ o
-        → (if k then Some Any else option_and_then (test_with (sign_of p) (ends_with 42 (signed p))) o) ≡ Some t → list_all is_beside (signed p) ≡ true
-    by_any true e o f k = any_beside (sign_of p) (signed p) e
-    by_any false e None f k = absurd cc
-    by_any false e (Some v) f k =
-        let body : List ℕ = without_star (signed p) in
-        let version = version_text_some body v f in
-        star_all is_beside refl refl (signed p) (all_more is_version_char is_beside (λ b j. or_here (is_version_char b) (b == 42) j) body (version_chars body version.0))
+-- the text ends with such a character
+abbrev EndsWell : List ℕ → Type 0
+EndsWell text = (front : List ℕ) × (last : ℕ) × (text ≡ front ++ last ∷ []) × (is_last last ≡ true)
 
--- and something stands there
-signed_some : (p : List ℕ) (t : Test) (s : List ℕ) → s ≡ []
-    → (if is_any (sign_of p) s then Some Any else option_and_then (test_with (sign_of p) (ends_with 42 s)) (version_text (without_star s))) ≡ Some t → ⊥
-signed_some p t s e h = empty (is_equal_sign (sign_of p)) (sym (ap outcome e) ∙ h)
-  where
-    outcome : List ℕ → Option Test
-    outcome r = if is_any (sign_of p) r then Some Any else option_and_then (test_with (sign_of p) (ends_with 42 r)) (version_text (without_star r))
+behind_ends : (text front back : List ℕ) → text ≡ front ++ back → EndsWell back → EndsWell text
+behind_ends text front back e h =
+    (front ++ h.0, h.1, e ∙ ap (λ r. front ++ r) h.2 ∙ sym (append_assoc front h.0 (h.1 ∷ [])), h.3)
 
-    empty : (k : Bool) → (if k && false then Some Any else None) ≡ Some t → ⊥
-    empty true f = cc
-    empty false f = cc
+body_ends : (w : List ℕ) → 0 < length w → list_all is_beside w ≡ true → EndsWell w
+body_ends [] h k = absurd (omega arith)
+body_ends (b ∷ []) h k = ([], b, refl, ap (λ q. q || b == close_paren) (and_left (is_beside b) true k))
+body_ends (b ∷ c ∷ cs) h k =
+    behind_ends (b ∷ c ∷ cs) (b ∷ []) (c ∷ cs) refl (body_ends (c ∷ cs) (omega arith) (and_right (is_beside b) (list_all is_beside (c ∷ cs)) k))
 
-test_end : (k : ℕ) (p : List ℕ) (t : Test) → is_beside k ≡ false → test_of p ≡ Some t → ends_with k p ≡ false
-test_end k p t f h = by_signed (signed p) refl
-  where
-    by_signed : (s : List ℕ) → signed p ≡ s → ends_with k p ≡ false
-    by_signed [] e = absurd (signed_some p t (signed p) e h)
-    by_signed (c ∷ cs) e =
-        let n : ℕ = sign_len (sign_of p) in
-        let whole : p ≡ take n p ++ (c ∷ cs) = sym (take-append-drop n p) ∙ ap (λ s. take n p ++ s) e in
-        ap (ends_with k) whole ∙ ends_append k (take n p) c cs ∙ never_ends is_beside k (c ∷ cs) (ap (list_all is_beside) (sym e) ∙ signed_beside p t h) f
+joint_ends : (text front : List ℕ) (joint : ℕ) (back : List ℕ) → text ≡ front ++ joint ∷ back → EndsWell back → EndsWell text
+joint_ends text front joint back e h = behind_ends text (front ++ joint ∷ []) back (e ∙ sym (append_assoc front (joint ∷ []) back)) h
 
-piece_end : (k b : ℕ) (bs : List ℕ) → is_beside k ≡ false → free b ≡ true → is_some (token_of (b ∷ bs)) ≡ true → ends_with k (b ∷ bs) ≡ false
-piece_end k b bs f h e = by_test (test_of (b ∷ bs)) refl (sym (ap is_some (free_token b bs h)) ∙ e)
-  where
-    by_test : (o : Option Test) → test_of (b ∷ bs) ≡ o → is_some (option_map token.Test o) ≡ true → ends_with k (b ∷ bs) ≡ false
-    by_test None g j = absurd cc
-    by_test (Some t) g j = test_end k (b ∷ bs) t f g
+writes_ends : (law : NoDotEnd) {rank : Rank} (tree : Tree rank) (text : List ℕ) → Writes tree text → EndsWell text
+writes_ends law (part p) text h = writes_ends law p text h
+writes_ends law (either p more) text h = joint_ends text h.0 bar h.1 h.2 (writes_ends law more h.1 h.4)
+writes_ends law (single a) text h = writes_ends law a text h
+writes_ends law (both a more) text h = joint_ends text h.0 comma h.1 h.2 (writes_ends law more h.1 h.4)
+writes_ends law (test t) text h =
+    let body = test_body text t (table_read law text t h) in
+    let n : ℕ = sign_len (sign_of text) in
+    behind_ends text (take n text) (signed text) (sym (take-append-drop n text)) (body_ends (signed text) body.some body.chars)
+writes_ends law (parens inside) text h = (open_paren ∷ h.0, close_paren, h.1, refl)
 
--- a mark that stands alone isn't this character
-abbrev pub NotAlone : ℕ → Type 0
-NotAlone k = (b : ℕ) (wanted : Wanted) (depth at : ℕ) → is_mark b ≡ true → fault_from wanted depth at ((b ∷ []) ∷ []) ≡ None → (b == k) ≡ false
-
-text_end : (k : ℕ) → is_beside k ≡ false → NotAlone k → (fuel : ℕ) (wanted : Wanted) (depth at : ℕ) (xs : List ℕ) → length xs ≤ fuel
-    → fault_from wanted depth at (pieces xs) ≡ None → ends_with k xs ≡ false
-text_end k f alone fuel wanted depth at [] h e = refl
-text_end k f alone zero wanted depth at (b ∷ bs) h e = absurd (omega arith)
-text_end k f alone (suc fuel) wanted depth at (b ∷ bs) h e = by_mark (is_mark b) refl (text_end k f alone fuel)
-  where
-    alone_or_more : (cs : List ℕ) → bs ≡ cs → is_mark b ≡ true → pieces (b ∷ bs) ≡ (b ∷ []) ∷ pieces bs → ends_with k bs ≡ false → ends_with k (b ∷ bs) ≡ false
-    alone_or_more [] i m cut more =
-        let only : pieces (b ∷ bs) ≡ (b ∷ []) ∷ [] = cut ∙ ap (λ r. (b ∷ []) ∷ pieces r) i in
-        ap (λ r. ends_with k (b ∷ r)) i ∙ last_char k b [] ∙ alone b wanted depth at m (sym (ap (fault_from wanted depth at) only) ∙ e)
-    alone_or_more (c ∷ cs) i m cut more = ap (λ r. ends_with k (b ∷ r)) i ∙ ends_more k b c cs ∙ ap (ends_with k) (sym i) ∙ more
-
-    rest_or_none : (front ys : List ℕ) → b ∷ bs ≡ front ++ ys → ends_with k front ≡ false → ends_with k ys ≡ false → ends_with k (b ∷ bs) ≡ false
-    rest_or_none front [] i first more = ap (ends_with k) (i ∙ append-nil front) ∙ first
-    rest_or_none front (y ∷ ys) i first more = ap (ends_with k) i ∙ ends_append k front y ys ∙ more
-
-    by_mark : (j : Bool) → is_mark b ≡ j
-        → ((w : Wanted) (d a : ℕ) (ys : List ℕ) → length ys ≤ fuel → fault_from w d a (pieces ys) ≡ None → ends_with k ys ≡ false)
-        → ends_with k (b ∷ bs) ≡ false
-    by_mark true m more =
-        let cut : pieces (b ∷ bs) ≡ (b ∷ []) ∷ pieces bs
-        = ap (λ q. if q then (b ∷ []) ∷ pieces bs else if begins_test bs then onto_first b (pieces bs) else (b ∷ []) ∷ pieces bs) m in
-        let next = after_none at (step wanted depth (token_of (b ∷ []))) (λ w d. fault_from w d (at + 1) (pieces bs)) (sym (ap (fault_from wanted depth at) cut) ∙ e) in
-        alone_or_more bs refl m cut (more next.0.0 next.0.1 (at + 1) bs (omega arith) next.2)
-    by_mark false m more =
-        let n : ℕ = prefix_len free bs in
-        let q : List ℕ = b ∷ take n bs in
-        let len : piece_len (b ∷ bs) ≡ suc n = free_len b bs m in
-        let cut : pieces (b ∷ bs) ≡ q ∷ pieces (drop n bs)
-        = pieces_first (b ∷ bs) (omega arith) ∙ ap (λ l. take l (b ∷ bs) ∷ pieces (drop l (b ∷ bs))) len in
-        let next = after_none at (step wanted depth (token_of q)) (λ w d. fault_from w d (at + length q) (pieces (drop n bs)))
-        (sym (ap (fault_from wanted depth at) cut) ∙ e) in
-        let first = piece_end k b (take n bs) f (ap not m) (step_some wanted depth (token_of q) next.0 next.1) in
-        let later = more next.0.0 next.0.1 (at + length q) (drop n bs) (omega (arith, length-drop n bs)) next.2 in
-        rest_or_none q (drop n bs) (ap (λ r. b ∷ r) (sym (take-append-drop n bs))) first later
-
-clause_end : (k : ℕ) → is_beside k ≡ false → NotAlone k → (text : List ℕ) → clause_fault text ≡ None → ends_with k text ≡ false
-clause_end k f alone text h = text_end k f alone (length text) Atom 0 0 text (omega arith) (left_none text h)
-
-unmarked : (k : ℕ) → is_mark k ≡ false → NotAlone k
-unmarked k f b wanted depth at m e = unlike is_mark b k m f
-
--- a joint isn't the last piece
-comma_alone : (wanted : Wanted) (depth at : ℕ) → fault_from wanted depth at ((44 ∷ []) ∷ []) ≡ None → ⊥
-comma_alone Atom depth at h = cc
-comma_alone Joint depth at h = cc
-
-bar_alone : (wanted : Wanted) (depth at : ℕ) → fault_from wanted depth at ((124 ∷ []) ∷ []) ≡ None → ⊥
-bar_alone Atom depth at h = cc
-bar_alone Joint depth at h = cc
-
-never : (k : ℕ) → ((wanted : Wanted) (depth at : ℕ) → fault_from wanted depth at ((k ∷ []) ∷ []) ≡ None → ⊥) → NotAlone k
-never k contra b wanted depth at m e = by_same (b == k) refl
-  where
-    by_same : (j : Bool) → (b == k) ≡ j → j ≡ false
-    by_same false i = refl
-    by_same true i = absurd (contra wanted depth at (sym (ap (λ c. fault_from wanted depth at ((c ∷ []) ∷ [])) (test_equal b k i)) ∙ e))
+never_last : (k : ℕ) → is_last k ≡ false → (text : List ℕ) → EndsWell text → ends_with k text ≡ false
+never_last k f text h = ap (ends_with k) h.2 ∙ ends_at h.0 k h.1 ∙ unlike is_last h.1 k h.3 f
 
 -- no clause ends with `,`, `|`, `<`, `>` or `=`
-pub ends_well : (text : List ℕ) → clause_fault text ≡ None
-    → (ends_with 44 text ≡ false) × (ends_with 124 text ≡ false) × (ends_with 60 text ≡ false) × (ends_with 62 text ≡ false) × (ends_with 61 text ≡ false)
-ends_well text h = (
-  clause_end 44 refl (never 44 comma_alone) text h,
-  clause_end 124 refl (never 124 bar_alone) text h,
-  clause_end 60 refl (unmarked 60 refl) text h,
-  clause_end 62 refl (unmarked 62 refl) text h,
-  clause_end 61 refl (unmarked 61 refl) text h,
-)
+pub ends_well : (law : NoDotEnd) (text : List ℕ) → clause_fault text ≡ None
+    → (ends_with comma text ≡ false) × (ends_with bar text ≡ false) × (ends_with less text ≡ false) × (ends_with greater text ≡ false) × (ends_with equals text ≡ false)
+ends_well law text h =
+    let is = clause_only text h in
+    let well = writes_ends law is.0 text is.1 in
+    (never_last comma refl text well, never_last bar refl text well, never_last less refl text well, never_last greater refl text well, never_last equals refl text well)
 
 -- and none begins with a joint
-pub begins_well : (text : List ℕ) → clause_fault text ≡ None → (bs : List ℕ) → (text ≡ 44 ∷ bs → ⊥) × (text ≡ 124 ∷ bs → ⊥)
+pub begins_well : (text : List ℕ) → clause_fault text ≡ None → (bs : List ℕ) → (text ≡ comma ∷ bs → ⊥) × (text ≡ bar ∷ bs → ⊥)
 begins_well text h bs = (λ e. no_comma bs (ap clause_fault (sym e) ∙ h), λ e. no_bar bs (ap clause_fault (sym e) ∙ h))

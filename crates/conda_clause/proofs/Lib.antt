@@ -3,9 +3,11 @@ pub mod PlaceLemmas
 pub mod GlobLemmas
 pub mod TestLemmas
 pub mod PieceLemmas
-pub mod TruthLemmas
 pub mod ClauseLemmas
 pub mod BesideLemmas
 pub mod FaultLemmas
 pub mod EndLemmas
 pub mod GrammarLemmas
+pub mod TruthLemmas
+pub mod FormLemmas
+pub mod SpellLemmas

@@ -1,5 +1,5 @@
 -- Lemmas on tests and on the characters of versions.
-use Rattle.std.proofs.Common.{◌≡◌, ℕ, ◌<◌, ◌≤◌, Bool, true, false, cond, not, nat_lt, List, [], ◌∷◌, ◌++◌, length, map, reverse, Option, None, Some, refl, sym, ap, ◌∙◌, arith, get_or, true≢false, zero, suc, lit<}
+use Rattle.std.proofs.Common.{◌≡◌, ℕ, ◌<◌, ◌≤◌, Bool, true, false, cond, not, nat_lt, List, [], ◌∷◌, ◌++◌, length, map, reverse, Option, None, Some, Ok, Err, refl, sym, ap, ◌∙◌, arith, get_or, true≢false, zero, suc, lit<}
 use Rattle.std.proofs.lemmas.Bool.Decides.{nat_tests}
 use Rattle.std.proofs.lemmas.List.{reverse-reverse}
 use Rattle.std.proofs.lemmas.List.Folds.{list_all-append, list_all-map}
@@ -9,6 +9,9 @@ use Rattle.std.specs.Char.{to_ascii_lowercase}
 use Rattle.std.specs.List.{list_all, position, prefix_len}
 use Rattle.std.specs.Option.{option_or}
 use Rattle.std.specs.Str.{IsUtf8}
+use Rattle.conda_base.specs.Signs.{dot}
+use Rattle.conda_base.specs.Reads.{unless}
+use Rattle.conda_base.specs.Texts.{ends_with}
 use Rattle.conda_version.specs.declared.error.VersionWhy.{VersionWhy}
 use Rattle.conda_version.specs.declared.error.VersionWhy.TheVariants.{Empty, Char, Epoch, Local, Component, Numeral}
 use Rattle.conda_version.specs.Grammar.{because, char_fault, component_fault, empty_fault, epoch_fault, is_plain, local_fault, marks_fault, numeral_from, offence}
@@ -16,7 +19,7 @@ use Rattle.conda_version.specs.Text.{holds, plain, trimmed, underscored, without
 use Rattle.conda_version.proofs.TextLemmas.{back_stops, front_stops}
 use Rattle.conda_clause.specs.declared.test.Sign.{Sign}
 use Rattle.conda_clause.specs.declared.test.Test.TheVariants.{Any}
-use Rattle.conda_clause.specs.Tests.{ends_with, is_any, is_version_char, sign_len, sign_of, signed, test_of, test_with, version_text, without_star}
+use Rattle.conda_clause.specs.Tests.{is_any, is_version_char, sign_len, sign_of, signed, test_of, test_with, version_text, without_star}
 
 or_none_left : {X : Type 0} (a b : Option X) → option_or a b ≡ None → a ≡ None
 or_none_left None b h = refl
@@ -125,6 +128,15 @@ chars_ascii (b ∷ bs) h (suc i) = chars_ascii bs (and_right (is_version_char b)
 pub chars_utf8 : (v : List ℕ) → list_all is_version_char v ≡ true → IsUtf8 v
 chars_utf8 v h = IsUtf8-from_ascii v (chars_ascii v h)
 
+-- what a reader that answers a value, or one fault, says
+pub unless_ok : {A Fault : Type 0} (o : Option Fault) (x y : A) → unless o x ≡ Ok y → (o ≡ None) × (y ≡ x)
+unless_ok None x y h = (refl, cc)
+unless_ok (Some f) x y h = absurd cc
+
+pub unless_err : {A Fault : Type 0} (o : Option Fault) (x : A) (f : Fault) → unless o x ≡ Err f → o ≡ Some f
+unless_err None x f h = absurd cc
+unless_err (Some g) x f h = cc
+
 pub version_is : (v : List ℕ) → offence v ≡ None → version_text v ≡ Some v
 version_is v h = ap (λ o. if is_none o then Some v else None) h
 
@@ -143,3 +155,21 @@ test_found text sign len behind star v is_sign is_len is_behind other is_star fo
     ap (λ q. test_with q star v) is_sign ∙ ap (λ q. test_with (sign_of text) q v) starred
     ∙ sym (ap (λ k. if k then Some Any else option_and_then (test_with (sign_of text) (ends_with 42 (signed text))) (version_text (without_star (signed text)))) any
     ∙ ap (option_and_then (test_with (sign_of text) (ends_with 42 (signed text)))) version)
+
+pub and_both : (a b : Bool) → a ≡ true → b ≡ true → (a && b) ≡ true
+and_both a b h k = ap (λ q. q && b) h ∙ k
+
+pub test_equal : (m n : ℕ) → (m == n) ≡ true → m ≡ n
+test_equal m n h = grind (arith, nat_tests)
+
+-- a character that fails a test is another one
+pub unlike : (p : ℕ → Bool) (b k : ℕ) → p b ≡ true → p k ≡ false → (b == k) ≡ false
+unlike p b k h f = by_same (b == k) refl
+  where
+    by_same : (s : Bool) → (b == k) ≡ s → s ≡ false
+    by_same false e = refl
+    by_same true e = absurd (true≢false (sym h ∙ ap p (test_equal b k e) ∙ f))
+
+-- no version ends with a dot, as the laws of versions say
+abbrev pub NoDotEnd : Type 0
+NoDotEnd = (v : List ℕ) → offence v ≡ None → ends_with dot v ≡ false

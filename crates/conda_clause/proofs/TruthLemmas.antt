@@ -1,99 +1,139 @@
--- Lemmas on the parts of a clause.
-use Rattle.std.proofs.Common.{◌≡◌, ℕ, suc, zero, ◌-◌, ◌<◌, Bool, true, false, List, [], ◌∷◌, length, take, drop, refl, sym, ap, ◌∙◌, arith}
+-- Tokens that write a tree say what the tree says.
+use Rattle.std.proofs.Common.{◌≡◌, ℕ, ◌+◌, ◌-◌, Bool, true, false, not, List, [], ◌∷◌, ◌++◌, refl, sym, ap, ◌∙◌, arith, append_assoc, append-nil}
+use Rattle.std.proofs.lemmas.Bool.Decides.{nat_tests}
 use Rattle.std.specs.Prelude.{if◌then◌else◌, ◌==◌, ◌&&◌, ◌||◌}
-use Rattle.std.specs.List.{list_all, list_any, onto_first}
-use Rattle.conda_clause.specs.declared.token.Joint.{Joint}
-use Rattle.conda_clause.specs.declared.token.Joint.TheVariants.{Bar, Comma}
 use Rattle.conda_clause.specs.declared.token.Token.{Token}
-use Rattle.conda_clause.specs.Truth.{atom_true, deeper, is_joint, part_len, parts, tokens_true}
+use Rattle.conda_clause.specs.declared.token.Token.TheVariants as token
+use Rattle.conda_clause.specs.declared.truth.Pass.{Pass}
+use Rattle.conda_clause.specs.declared.truth.Pass.TheVariants.{Over, Read}
+use Rattle.conda_base.specs.Signs.{bar, comma}
+use Rattle.conda_clause.specs.Tree.{Rank, Tree, Writes, tree_holds}
+use Rattle.conda_clause.specs.Tree.Rank.{and, atom, or}
+use Rattle.conda_clause.specs.Tree.Tree.{part, either, single, both, test, parens}
+use Rattle.conda_clause.specs.Truth.{tokens_true}
 
-more_core : (joint : Joint) (k : Bool) (t j : Token) (ts behind : List Token) (m : ℕ) (ps : List (List Token))
-    → (drop m ts ≡ j ∷ behind → ps ≡ take m ts ∷ parts joint 0 behind)
-    → drop (if k then 0 else suc m) (t ∷ ts) ≡ j ∷ behind
-    → (if k then [] ∷ parts joint 0 ts else onto_first t ps) ≡ take (if k then 0 else suc m) (t ∷ ts) ∷ parts joint 0 behind
-more_core joint true t j ts behind m ps ih h = ap (λ r. [] ∷ parts joint 0 (drop 1 r)) h
-more_core joint false t j ts behind m ps ih h = ap (onto_first t) (ih h)
+-- the tokens that write a tree
+abbrev pub tree_tokens : {rank : Rank} → Tree rank → List Token
+tree_tokens (part p) = tree_tokens p
+tree_tokens (either p more) = tree_tokens p ++ token.Or ∷ tree_tokens more
+tree_tokens (single a) = tree_tokens a
+tree_tokens (both a more) = tree_tokens a ++ token.And ∷ tree_tokens more
+tree_tokens (test t) = token.Test t ∷ []
+tree_tokens (parens inside) = token.Open ∷ tree_tokens inside ++ token.Close ∷ []
 
-more_parts : (joint : Joint) (d : ℕ) (ts : List Token) (j : Token) (behind : List Token) → drop (part_len joint d ts) ts ≡ j ∷ behind
-    → parts joint d ts ≡ take (part_len joint d ts) ts ∷ parts joint 0 behind
-more_parts joint d [] j behind h = cc
-more_parts joint d (t ∷ ts) j behind h =
-    more_core joint (d == 0 && is_joint joint t) t j ts behind (part_len joint (deeper d t) ts) (parts joint (deeper d t) ts) (more_parts joint (deeper d t) ts j behind) h
+-- What is passed over.
 
-last_core : (joint : Joint) (k : Bool) (t : Token) (ts : List Token) (m : ℕ) (ps : List (List Token))
-    → (drop m ts ≡ [] → ps ≡ take m ts ∷ [])
-    → drop (if k then 0 else suc m) (t ∷ ts) ≡ []
-    → (if k then [] ∷ parts joint 0 ts else onto_first t ps) ≡ take (if k then 0 else suc m) (t ∷ ts) ∷ []
-last_core joint true t ts m ps ih h = cc
-last_core joint false t ts m ps ih h = ap (onto_first t) (ih h)
+-- no `|` of the tree ends what is passed over
+abbrev Passes : Rank → Bool → ℕ → Type 0
+Passes or value depth = (depth == 0 && not value) ≡ false
+Passes and value depth = Unit {0}
+Passes atom value depth = Unit {0}
 
-last_part : (joint : Joint) (d : ℕ) (ts : List Token) → drop (part_len joint d ts) ts ≡ [] → parts joint d ts ≡ take (part_len joint d ts) ts ∷ []
-last_part joint d [] h = refl
-last_part joint d (t ∷ ts) h =
-    last_core joint (d == 0 && is_joint joint t) t ts (part_len joint (deeper d t) ts) (parts joint (deeper d t) ts) (last_part joint (deeper d t) ts) h
+opened : (value : Bool) (depth : ℕ) → (depth + 1 == 0 && not value) ≡ false
+opened value depth = grind (arith, nat_tests)
 
-nil_of_len : (ts : List Token) → length ts ≡ 0 → ts ≡ []
-nil_of_len [] h = refl
-nil_of_len (t ∷ ts) h = absurd (omega arith)
+closes : (version : List ℕ) (value : Bool) (depth : ℕ) (rest : List Token) → tokens_true version value (Over (depth + 1)) (token.Close ∷ rest) ≡ tokens_true version value (Over depth) rest
+closes version value depth rest =
+    let more : (depth + 1 == 0) ≡ false = grind (arith, nat_tests) in
+    let less : depth + 1 - 1 ≡ depth = omega arith in
+    ap (λ k. tokens_true version value (if k then Read else Over (depth + 1 - 1)) rest) more ∙ ap (λ d. tokens_true version value (Over d) rest) less
 
--- the first part and what is behind its joint
-pub parts_on : (joint : Joint) (ts part rest behind : List Token) (j : Token) (len : ℕ) → len ≡ part_len joint 0 ts → part ≡ take len ts → rest ≡ drop len ts → rest ≡ j ∷ behind
-    → parts joint 0 ts ≡ part ∷ parts joint 0 behind
-parts_on joint ts part rest behind j len is_len is_part is_rest more =
-    let whole : drop (part_len joint 0 ts) ts ≡ j ∷ behind = sym (is_rest ∙ ap (λ n. drop n ts) is_len) ∙ more in
-    more_parts joint 0 ts j behind whole ∙ ap (λ p. p ∷ parts joint 0 behind) (sym (is_part ∙ ap (λ n. take n ts) is_len))
+passed : {rank : Rank} (tree : Tree rank) (version : List ℕ) (value : Bool) (depth : ℕ) (rest : List Token) → Passes rank value depth
+    → tokens_true version value (Over depth) (tree_tokens tree ++ rest) ≡ tokens_true version value (Over depth) rest
+passed (part p) version value depth rest h = passed p version value depth rest tt
+passed (either p more) version value depth rest h =
+    ap (tokens_true version value (Over depth)) (append_assoc (tree_tokens p) (token.Or ∷ tree_tokens more) rest)
+    ∙ passed p version value depth (token.Or ∷ tree_tokens more ++ rest) tt
+    ∙ ap (λ k. tokens_true version value (if k then Read else Over depth) (tree_tokens more ++ rest)) h
+    ∙ passed more version value depth rest h
+passed (single a) version value depth rest h = passed a version value depth rest tt
+passed (both a more) version value depth rest h =
+    ap (tokens_true version value (Over depth)) (append_assoc (tree_tokens a) (token.And ∷ tree_tokens more) rest)
+    ∙ passed a version value depth (token.And ∷ tree_tokens more ++ rest) tt
+    ∙ passed more version value depth rest tt
+passed (test t) version value depth rest h = refl
+passed (parens inside) version value depth rest h =
+    ap (tokens_true version value (Over (depth + 1))) (append_assoc (tree_tokens inside) (token.Close ∷ []) rest)
+    ∙ passed inside version value (depth + 1) (token.Close ∷ rest) (opened value depth)
+    ∙ closes version value depth rest
 
--- the only part
-pub parts_end : (joint : Joint) (ts part rest : List Token) (len : ℕ) → len ≡ part_len joint 0 ts → part ≡ take len ts → rest ≡ drop len ts → length rest ≡ 0
-    → parts joint 0 ts ≡ part ∷ []
-parts_end joint ts part rest len is_len is_part is_rest none =
-    let whole : drop (part_len joint 0 ts) ts ≡ [] = sym (is_rest ∙ ap (λ n. drop n ts) is_len) ∙ nil_of_len rest none in
-    last_part joint 0 ts whole ∙ ap (λ p. p ∷ []) (sym (is_part ∙ ap (λ n. take n ts) is_len))
+-- What is read.
 
--- the atoms of a part all hold, so many parentheses deep
-abbrev pub part_true : ℕ → List ℕ → List Token → Bool
-part_true depth version part = list_all (atom_true (tokens_true depth version) version) (parts Comma 0 part)
+-- what follows the tree ends what is passed over
+abbrev Ends : Rank → List ℕ → List Token → Type 0
+Ends or version rest = (value : Bool) → tokens_true version value (Over 0) rest ≡ tokens_true version value Read rest
+Ends and version rest = tokens_true version false (Over 0) rest ≡ tokens_true version false Read rest
+Ends atom version rest = Unit {0}
 
-tokens_true_suc : (n : ℕ) (version : List ℕ) (ts : List Token) → tokens_true (suc n) version ts ≡ list_any (part_true n version) (parts Bar 0 ts)
-tokens_true_suc n version ts = refl
+pub read : {rank : Rank} (tree : Tree rank) (version : List ℕ) (value : Bool) (rest : List Token) → Ends rank version rest
+    → tokens_true version value Read (tree_tokens tree ++ rest) ≡ tokens_true version (tree_holds tree version) Read rest
+read (part p) version value rest h = read p version value rest (h false)
+read (either p more) version value rest h =
+    ap (tokens_true version value Read) (append_assoc (tree_tokens p) (token.Or ∷ tree_tokens more) rest)
+    ∙ read p version value (token.Or ∷ tree_tokens more ++ rest) refl
+    ∙ by_part (tree_holds p version) (read more version false rest h)
+  where
+    by_part : (k : Bool) → tokens_true version false Read (tree_tokens more ++ rest) ≡ tokens_true version (tree_holds more version) Read rest
+        → tokens_true version k Read (token.Or ∷ tree_tokens more ++ rest) ≡ tokens_true version (k || tree_holds more version) Read rest
+    by_part true e = passed more version true 0 rest refl ∙ h true
+    by_part false e = e
+read (single a) version value rest h = read a version value rest tt
+read (both a more) version value rest h =
+    ap (tokens_true version value Read) (append_assoc (tree_tokens a) (token.And ∷ tree_tokens more) rest)
+    ∙ read a version value (token.And ∷ tree_tokens more ++ rest) tt
+    ∙ by_atom (tree_holds a version) (read more version true rest h)
+  where
+    by_atom : (k : Bool) → tokens_true version true Read (tree_tokens more ++ rest) ≡ tokens_true version (tree_holds more version) Read rest
+        → tokens_true version k Read (token.And ∷ tree_tokens more ++ rest) ≡ tokens_true version (k && tree_holds more version) Read rest
+    by_atom true e = e
+    by_atom false e = passed more version false 0 rest tt ∙ h
+read (test t) version value rest h = refl
+read (parens inside) version value rest h =
+    ap (tokens_true version value Read) (append_assoc (tree_tokens inside) (token.Close ∷ []) rest)
+    ∙ read inside version value (token.Close ∷ rest) (λ k. refl)
 
--- some part holds
-pub tokens_true_is : (depth : ℕ) (version : List ℕ) (ts : List Token) → 0 < depth → tokens_true depth version ts ≡ list_any (part_true (depth - 1) version) (parts Bar 0 ts)
-tokens_true_is zero version ts h = absurd (omega arith)
-tokens_true_is (suc n) version ts h =
-    let e : suc n - 1 ≡ n = omega arith in
-    sym (ap (λ d. list_any (part_true d version) (parts Bar 0 ts)) e)
+-- the tokens of a clause say what its tree says
+pub tree_true : (tree : Tree or) (version : List ℕ) → tokens_true version false Read (tree_tokens tree) ≡ tree_holds tree version
+tree_true tree version = ap (tokens_true version false Read) (sym (append-nil (tree_tokens tree))) ∙ read tree version false [] (λ k. refl)
 
--- there is a first part, whatever follows it
-parts_head : (joint : Joint) (ts part rest : List Token) (len : ℕ) → len ≡ part_len joint 0 ts → part ≡ take len ts → drop len ts ≡ rest
-    → (more : List (List Token)) × (parts joint 0 ts ≡ part ∷ more)
-parts_head joint ts part [] len is_len is_part is_rest = ([], parts_end joint ts part [] len is_len is_part (sym is_rest) refl)
-parts_head joint ts part (j ∷ behind) len is_len is_part is_rest =
-    (parts joint 0 behind, parts_on joint ts part (j ∷ behind) behind j len is_len is_part (sym is_rest) refl)
+-- Two trees as one.
 
-module _ (passes : List Token → Bool) (joint : Joint) (ts part : List Token) (len : ℕ) (is_len : len ≡ part_len joint 0 ts) (is_part : part ≡ take len ts) where
-  pub all_stops : passes part ≡ false → list_all passes (parts joint 0 ts) ≡ false
-  all_stops h =
-      let head = parts_head joint ts part (drop len ts) len is_len is_part refl in
-      ap (list_all passes) head.1 ∙ ap (λ k. k && list_all passes head.0) h
+pub either_of : Tree or → Tree or → Tree or
+either_of (part p) t = either p t
+either_of (either p more) t = either p (either_of more t)
 
-  pub any_stops : passes part ≡ true → list_any passes (parts joint 0 ts) ≡ true
-  any_stops h =
-      let head = parts_head joint ts part (drop len ts) len is_len is_part refl in
-      ap (list_any passes) head.1 ∙ ap (λ k. k || list_any passes head.0) h
+pub both_of : Tree and → Tree and → Tree and
+both_of (single a) t = both a t
+both_of (both a more) t = both a (both_of more t)
 
-  pub all_on : (rest behind : List Token) (j : Token) → rest ≡ drop len ts → rest ≡ j ∷ behind → passes part ≡ true
-      → list_all passes (parts joint 0 behind) ≡ list_all passes (parts joint 0 ts)
-  all_on rest behind j is_rest more h =
-      sym (ap (list_all passes) (parts_on joint ts part rest behind j len is_len is_part is_rest more) ∙ ap (λ k. k && list_all passes (parts joint 0 behind)) h)
+or_assoc : (a b c : Bool) → (a || (b || c)) ≡ ((a || b) || c)
+or_assoc true b c = refl
+or_assoc false b c = refl
 
-  pub any_on : (rest behind : List Token) (j : Token) → rest ≡ drop len ts → rest ≡ j ∷ behind → passes part ≡ false
-      → list_any passes (parts joint 0 behind) ≡ list_any passes (parts joint 0 ts)
-  any_on rest behind j is_rest more h =
-      sym (ap (list_any passes) (parts_on joint ts part rest behind j len is_len is_part is_rest more) ∙ ap (λ k. k || list_any passes (parts joint 0 behind)) h)
+and_assoc : (a b c : Bool) → (a && (b && c)) ≡ ((a && b) && c)
+and_assoc true b c = refl
+and_assoc false b c = refl
 
-  pub all_end : (rest : List Token) → rest ≡ drop len ts → length rest ≡ 0 → passes part ≡ true → list_all passes (parts joint 0 ts) ≡ true
-  all_end rest is_rest none h = ap (list_all passes) (parts_end joint ts part rest len is_len is_part is_rest none) ∙ ap (λ k. k && true) h
+pub either_holds : (s t : Tree or) (version : List ℕ) → tree_holds (either_of s t) version ≡ (tree_holds s version || tree_holds t version)
+unfolding either_of
+either_holds (part p) t version = refl
+either_holds (either p more) t version =
+    ap (λ k. tree_holds p version || k) (either_holds more t version) ∙ or_assoc (tree_holds p version) (tree_holds more version) (tree_holds t version)
 
-  pub any_end : (rest : List Token) → rest ≡ drop len ts → length rest ≡ 0 → passes part ≡ false → list_any passes (parts joint 0 ts) ≡ false
-  any_end rest is_rest none h = ap (list_any passes) (parts_end joint ts part rest len is_len is_part is_rest none) ∙ ap (λ k. k || false) h
+pub both_holds : (s t : Tree and) (version : List ℕ) → tree_holds (both_of s t) version ≡ (tree_holds s version && tree_holds t version)
+unfolding both_of
+both_holds (single a) t version = refl
+both_holds (both a more) t version =
+    ap (λ k. tree_holds a version && k) (both_holds more t version) ∙ and_assoc (tree_holds a version) (tree_holds more version) (tree_holds t version)
+
+pub either_writes : (s t : Tree or) (a b : List ℕ) → Writes s a → Writes t b → Writes (either_of s t) (a ++ bar ∷ b)
+unfolding either_of
+either_writes (part p) t a b h k = (a, b, refl, h, k)
+either_writes (either p more) t a b h k =
+    (h.0, h.1 ++ bar ∷ b, ap (λ r. r ++ bar ∷ b) h.2 ∙ append_assoc h.0 (bar ∷ h.1) (bar ∷ b), h.3, either_writes more t h.1 b h.4 k)
+
+pub both_writes : (s t : Tree and) (a b : List ℕ) → Writes s a → Writes t b → Writes (both_of s t) (a ++ comma ∷ b)
+unfolding both_of
+both_writes (single p) t a b h k = (a, b, refl, h, k)
+both_writes (both p more) t a b h k =
+    (h.0, h.1 ++ comma ∷ b, ap (λ r. r ++ comma ∷ b) h.2 ∙ append_assoc h.0 (comma ∷ h.1) (comma ∷ b), h.3, both_writes more t h.1 b h.4 k)

@@ -1,5 +1,7 @@
--- Which texts are version clauses, and the first fault of one that is none: conda's version.py, in this project's profile.
+-- Which texts are version clauses, and the first fault of one that is none: conda's version.py, in
+-- this project's profile.
 use Rattle.std.specs.Prelude.{ℕ, Bool, true, false, codes, nat_lt, ◌==◌, ◌&&◌, ◌||◌, ◌+◌, ◌-◌, if◌then◌else◌, List, [], ◌∷◌, ◌++◌, length, Option, None, Some, Result, Ok, Err}
+use Rattle.conda_base.specs.Signs.{close_paren, equals, greater, less, open_paren, star, tilde}
 use Rattle.conda_clause.specs.declared.error.SpecWhy.{SpecWhy}
 use Rattle.conda_clause.specs.declared.error.SpecWhy.TheVariants.{Paren, Version}
 use Rattle.conda_clause.specs.declared.reading.Wanted.{Wanted}
@@ -18,18 +20,22 @@ use Rattle.conda_clause.specs.Tests.{is_version_char, sign_of}
 -- how many `)` of a text close a `(` that stands before it
 abbrev pub closers : List ℕ → ℕ
 closers [] = 0
-closers (b ∷ bs) = if b == 40 then closers bs - 1 else if b == 41 then closers bs + 1 else closers bs
+closers (b ∷ bs) =
+    if b == open_paren then closers bs - 1
+    else if b == close_paren then closers bs + 1
+    else closers bs
 
 -- the place of the first `(` that no `)` closes
 abbrev pub unclosed : ℕ → List ℕ → Option ℕ
 unclosed at [] = None
-unclosed at (b ∷ bs) = if b == 40 && closers bs == 0 then Some at else unclosed (at + 1) bs
+unclosed at (b ∷ bs) = if b == open_paren && closers bs == 0 then Some at else unclosed (at + 1) bs
 
 -- Reading from the left: what may come next, and how many parentheses are open.
 
--- Where a test or a `(` is wanted, each takes its turn, and no more than 32 are open. Behind a test and behind a `)` come `,`, `|`
--- and `)`, the last only where a parenthesis is open. Of all else a parenthesis is Paren, and the rest is Version; but a `)` that
--- stands for a missing test in open parentheses is Version too.
+-- Where a test or a `(` is wanted, each takes its turn, and no more than 32 are open. Behind a test
+-- and behind a `)` come `,`, `|` and `)`, the last only where a parenthesis is open. Of all else a
+-- parenthesis is Paren, and the rest is Version; but a `)` that stands for a missing test in open
+-- parentheses is Version too.
 abbrev pub step : Wanted → ℕ → Option Token → Result (Wanted × ℕ) SpecWhy
 step Atom depth (Some Open) = if nat_lt depth 32 then Ok (Atom, depth + 1) else Err Paren
 step Atom depth (Some Close) = if nat_lt 0 depth then Err Version else Err Paren
@@ -58,7 +64,9 @@ end_fault Joint at = None
 abbrev pub fault_from : Wanted → ℕ → ℕ → List (List ℕ) → Option (ℕ × SpecWhy)
 fault_from wanted depth at [] = end_fault wanted at
 fault_from wanted depth at (piece ∷ more) =
-    after (step wanted depth (token_of piece)) (λ next deep. fault_from next deep (at + length piece) more) (λ why. Some (at, why))
+    after (step wanted depth (token_of piece))
+    (λ next deep. fault_from next deep (at + length piece) more)
+    (λ why. Some (at, why))
 
 -- Of two faults the one at the lesser place.
 abbrev pub lesser : Option ℕ → Option (ℕ × SpecWhy) → Option (ℕ × SpecWhy)
@@ -66,13 +74,16 @@ lesser None found = found
 lesser (Some at) None = Some (at, Paren)
 lesser (Some at) (Some found) = if nat_lt found.0 at then Some found else Some (at, Paren)
 
--- what is wrong with a clause, and where
+-- what is wrong with a clause, and where; the laws of its grammar say which texts have no fault
 abbrev pub clause_fault : List ℕ → Option (ℕ × SpecWhy)
 clause_fault text = lesser (unclosed 0 text) (fault_from Atom 0 0 (pieces text))
 
--- a character that a clause may hold: a letter, a digit, or one of `.`, `_`, `+`, `!`, `-`, `*`, `=`, `<`, `>`, `~`, `,`, `|`, `(` and `)`
+-- a character that a clause may hold: a letter, a digit, or one of `.`, `_`, `+`, `!`, `-`, `*`,
+-- `=`, `<`, `>`, `~`, `,`, `|`, `(` and `)`
 abbrev pub is_clause_char : ℕ → Bool
-is_clause_char b = is_mark b || (is_version_char b || (b == 42 || b == 61 || b == 60 || b == 62 || b == 126))
+is_clause_char b =
+    is_mark b
+    || (is_version_char b || (b == star || b == equals || b == less || b == greater || b == tilde))
 
 -- Beside a build.
 
@@ -111,6 +122,7 @@ starred text (Or ∷ more) = text
 starred text (Test test ∷ []) = starred_test text test
 starred text (Test test ∷ token ∷ more) = text
 
--- The clause that stands beside a build: the one test `=v`, `=v*` or `=v.*` is `v.*` there, and `=*` is `*`.
+-- The clause that stands beside a build: the one test `=v`, `=v*` or `=v.*` is `v.*` there, and
+-- `=*` is `*`.
 abbrev pub beside_build : List ℕ → List ℕ
 beside_build text = if is_single (sign_of text) then starred text (tokens text) else text

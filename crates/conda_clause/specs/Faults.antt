@@ -30,4 +30,5 @@ kept_read kept = unless (clause_fault (map to_ascii_lowercase kept)) (map to_asc
 -- the clause that a text writes
 abbrev pub clause_read : List ℕ → Read (List ℕ) (ℕ × SpecWhy)
 clause_read text =
-    unless (placed (trimmed text) (clause_fault (clause_text (trimmed text)))) (clause_text (trimmed text))
+    let kept : List ℕ = clause_text (trimmed text) in
+    unless (placed (trimmed text) (clause_fault kept)) kept

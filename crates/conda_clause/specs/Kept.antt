@@ -3,14 +3,15 @@ use Rattle.std.specs.Prelude.{ℕ, Bool, false, not, ◌==◌, ◌||◌, ◌+◌
 use Rattle.std.specs.Char.{to_ascii_lowercase}
 use Rattle.std.specs.List.{slice_split}
 use Rattle.std.specs.Option.{option_or}
+use Rattle.conda_base.specs.Signs.{bar, comma, equals, greater, less, space}
 
 -- `,` or `|`: the spaces before it are dropped
 abbrev pub is_joint : ℕ → Bool
-is_joint b = b == 44 || b == 124
+is_joint b = b == comma || b == bar
 
 -- one of these, `<`, `>` or `=`: the spaces behind it are dropped
 abbrev pub drops_behind : ℕ → Bool
-drops_behind b = is_joint b || b == 60 || b == 62 || b == 61
+drops_behind b = is_joint b || b == less || b == greater || b == equals
 
 -- the last character of a run, or what ended the run before where it is empty
 abbrev pub last_of : Option ℕ → List ℕ → Option ℕ
@@ -29,16 +30,19 @@ marks_at at (b ∷ bs) = (at, b) ∷ marks_at (at + 1) bs
 -- the same with the space before it that stays, where the run before ends with this character
 abbrev pub run_marks : Option ℕ → ℕ → List ℕ → List (ℕ × ℕ)
 run_marks last at [] = []
-run_marks last at (b ∷ bs) = if has_gap last b then (at - 1, 32) ∷ marks_at at (b ∷ bs) else marks_at at (b ∷ bs)
+run_marks last at (b ∷ bs) =
+    if has_gap last b then (at - 1, space) ∷ marks_at at (b ∷ bs) else marks_at at (b ∷ bs)
 
--- What stays of the runs from a place on, behind a run that ends with this character. An empty run stands between two spaces.
+-- What stays of the runs from a place on, behind a run that ends with this character. An empty run
+-- stands between two spaces.
 abbrev pub kept_runs : Option ℕ → ℕ → List (List ℕ) → List (ℕ × ℕ)
 kept_runs last at [] = []
-kept_runs last at (run ∷ runs) = run_marks last at run ++ kept_runs (last_of last run) (at + length run + 1) runs
+kept_runs last at (run ∷ runs) =
+    run_marks last at run ++ kept_runs (last_of last run) (at + length run + 1) runs
 
 -- the characters that stay, each behind its place
 abbrev pub marks : List ℕ → List (ℕ × ℕ)
-marks text = kept_runs None 0 (slice_split (λ b. b == 32) text)
+marks text = kept_runs None 0 (slice_split (λ b. b == space) text)
 
 -- the characters that stay
 abbrev pub kept : List ℕ → List ℕ

@@ -3,6 +3,6 @@ pub mod Glob
 pub mod Tests
 pub mod Pieces
 pub mod Clause
-pub mod Grammar
+pub mod Tree
 pub mod Truth
 pub mod Faults

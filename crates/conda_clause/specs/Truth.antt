@@ -1,59 +1,40 @@
--- When a version clause holds: conda's version.py.
-use Rattle.std.specs.Prelude.{ℕ, zero, suc, Bool, true, false, ◌==◌, ◌&&◌, ◌+◌, ◌-◌, if◌then◌else◌, List, [], ◌∷◌, length, take}
-use Rattle.std.specs.List.{list_all, list_any, onto_first}
-use Rattle.conda_clause.specs.declared.token.Joint.{Joint}
-use Rattle.conda_clause.specs.declared.token.Joint.TheVariants.{Comma, Bar}
+-- When the tokens of a version clause hold, read once from the left: this project's own.
+use Rattle.std.specs.Prelude.{ℕ, Bool, false, not, ◌==◌, ◌&&◌, ◌+◌, ◌-◌, if◌then◌else◌, List, [], ◌∷◌}
 use Rattle.conda_clause.specs.declared.token.Token.{Token}
 use Rattle.conda_clause.specs.declared.token.Token.TheVariants.{And, Close, Open, Or, Test}
+use Rattle.conda_clause.specs.declared.truth.Pass.{Pass}
+use Rattle.conda_clause.specs.declared.truth.Pass.TheVariants.{Over, Read}
 use Rattle.conda_clause.specs.Pieces.{tokens}
 use Rattle.conda_clause.specs.Tests.{test_holds}
 
--- the token is this joint
-abbrev pub is_joint : Joint → Token → Bool
-is_joint Comma And = true
-is_joint Comma Open = false
-is_joint Comma Close = false
-is_joint Comma Or = false
-is_joint Comma (Test test) = false
-is_joint Bar Or = true
-is_joint Bar Open = false
-is_joint Bar Close = false
-is_joint Bar And = false
-is_joint Bar (Test test) = false
+-- What is said so far, and what is done with the tokens behind this one. An atom that doesn't hold
+-- decides up to the next `|`, and a part that holds decides up to the end of the parentheses:
+-- tokens there are passed over.
+abbrev pub read_token : List ℕ → Bool → Pass → Token → Bool × Pass
+read_token version value Read (Test test) = (test_holds test version, Read)
+read_token version value Read Open = (value, Read)
+read_token version value Read Close = (value, Read)
+read_token version value Read And = (value, if value then Read else Over 0)
+read_token version value Read Or = (value, if value then Over 0 else Read)
+read_token version value (Over depth) (Test test) = (value, Over depth)
+read_token version value (Over depth) Open = (value, Over (depth + 1))
+read_token version value (Over depth) Close = (value, if depth == 0 then Read else Over (depth - 1))
+read_token version value (Over depth) And = (value, Over depth)
+read_token version value (Over depth) Or =
+    (value, if depth == 0 && not value then Read else Over depth)
 
--- how many parentheses are open behind a token
-abbrev pub deeper : ℕ → Token → ℕ
-deeper depth Open = depth + 1
-deeper depth Close = depth - 1
-deeper depth And = depth
-deeper depth Or = depth
-deeper depth (Test test) = depth
+-- how many parentheses are open in what is passed over
+abbrev pub depth_of : Pass → ℕ
+depth_of Read = 0
+depth_of (Over depth) = depth
 
--- the parts between the joints that stand in no parentheses
-abbrev pub parts : Joint → ℕ → List Token → List (List Token)
-parts joint depth [] = [] ∷ []
-parts joint depth (token ∷ more) =
-    if depth == 0 && is_joint joint token then [] ∷ parts joint 0 more else onto_first token (parts joint (deeper depth token) more)
+-- what tokens say in the end
+abbrev pub tokens_true : List ℕ → Bool → Pass → List Token → Bool
+tokens_true version value pass [] = value
+tokens_true version value pass (token ∷ more) =
+    let next : Bool × Pass = read_token version value pass token in
+    tokens_true version next.0 next.1 more
 
--- An atom holds: a test for the version, or what stands in its parentheses.
-abbrev pub atom_true : (List Token → Bool) → List ℕ → List Token → Bool
-atom_true inside version [] = false
-atom_true inside version (Test test ∷ more) = test_holds test version
-atom_true inside version (Open ∷ more) = inside (take (length more - 1) more)
-atom_true inside version (Close ∷ more) = false
-atom_true inside version (And ∷ more) = false
-atom_true inside version (Or ∷ more) = false
-
--- Some part between the `|` has only atoms that hold, at most so many parentheses deep.
-abbrev pub tokens_true : ℕ → List ℕ → List Token → Bool
-tokens_true zero version all = false
-tokens_true (suc depth) version all = list_any (λ part. list_all (atom_true (tokens_true depth version) version) (parts Comma 0 part)) (parts Bar 0 all)
-
--- No clause has more parentheses than tokens.
+-- the clause that a text writes holds for a version; the laws of truth say it by the clause's tree
 abbrev pub clause_holds : List ℕ → List ℕ → Bool
-clause_holds text version = tokens_true (length (tokens text)) version (tokens text)
-
--- how many tokens stand before the first joint that stands in no parentheses
-abbrev pub part_len : Joint → ℕ → List Token → ℕ
-part_len joint depth [] = 0
-part_len joint depth (token ∷ more) = if depth == 0 && is_joint joint token then 0 else suc (part_len joint (deeper depth token) more)
+clause_holds text version = tokens_true version false Read (tokens text)

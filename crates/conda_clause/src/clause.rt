@@ -13,12 +13,12 @@ use crate::test::{Sign, Test, sign_of};
 use crate::token::Token;
 use crate::truth::tokens_true;
 use conda_base::{Copied, Rows, Text};
-use conda_version::{Version, trimmed};
+use conda_version::{Version, grammar_laws, trimmed};
 use std::alloc::{AllocError, Global};
 use std::marker::Model;
 
-/// A version clause: tests joined by `,` (and) and `|` (or), with parentheses. Contracts see it as its text, in lower case and
-/// without the spaces that are dropped.
+/// A version clause: tests joined by `,` (and) and `|` (or), with parentheses. Contracts see it as
+/// its text, in lower case and without the spaces that are dropped.
 #[derive(Clone, Debug, Drop)]
 pub struct VersionClause {
     text: Text,
@@ -37,11 +37,14 @@ impl Model for VersionClause {
 
     ghost inverse = { λ text. record { text = text; tokens = pieces.tokens text } };
 
-    ghost invariant = { λ c. (clause_fault c.text ≡ None) × (map to_ascii_lowercase c.text ≡ c.text) × (c.tokens ≡ pieces.tokens c.text) };
+    ghost invariant = { λ c.
+        (clause_fault c.text ≡ None) × (map to_ascii_lowercase c.text ≡ c.text)
+        × (c.tokens ≡ pieces.tokens c.text) };
 }
 
 impl VersionClause {
-    /// Reads a version clause. Spaces at both ends are dropped, and places speak of the text without these.
+    /// Reads a version clause. Spaces at both ends are dropped, and places speak of the text
+    /// without these.
     pub fn read(alloc: Global, text: &str) -> Result<VersionClause, SpecErr>
         ensures { Gives spec_fault_of result (clause_read text.now) }
     {
@@ -57,7 +60,8 @@ impl VersionClause {
         }
     }
 
-    /// Reads a version clause from characters of which no space is to be dropped. Places speak of these.
+    /// Reads a version clause from characters of which no space is to be dropped. Places speak of
+    /// these.
     pub fn of_kept(alloc: Global, kept: &str) -> Result<VersionClause, SpecErr>
         ensures { Gives spec_fault_of result (kept_read kept.now) }
     {
@@ -89,16 +93,18 @@ impl VersionClause {
     pub fn holds(&self, version: &Version) -> bool
         ensures { result ≡ clause_holds self.now version.now }
     {
-        tokens_true(self.tokens.len(), version, self.tokens.as_slice())
+        tokens_true(version, self.tokens.as_slice())
     }
 
-    /// The clause as it is written where a build follows: the one test `=v`, `=v*` or `=v.*` as `v.*`, and `=*` as `*`.
+    /// The clause as it is written where a build follows: the one test `=v`, `=v*` or `=v.*` as
+    /// `v.*`, and `=*` as `*`.
     pub fn beside_build(&self, alloc: Global) -> Result<VersionClause, AllocError>
         ensures value { IfOk result (λ c. c ≡ beside_build self.now) }
         ensures good { IfOk result (λ c. clause_fault c ≡ None) }
         ensures fixed { IfOk result (λ c. beside_build c ≡ c) }
         ensures lowered { IfOk result (λ c. map to_ascii_lowercase c ≡ c) }
     {
+        grammar_laws();
         let text = beside_text(alloc, &self.text, self.tokens.as_slice())?;
         let tokens = self.tokens.copy()?;
         Ok(VersionClause { text, tokens })

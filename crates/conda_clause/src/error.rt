@@ -33,7 +33,8 @@ pub enum SpecWhy {
 /// Why no specification was read.
 #[derive(Clone, Copy, Debug, PartialEq, Eq, Error)]
 pub enum SpecErr {
-    /// The text is no specification: the least place of a fault, in bytes of the text without the spaces at its ends.
+    /// The text is no specification: the least place of a fault, in bytes of the text without the
+    /// spaces at its ends.
     #[error("bad specification at {at}: {why}")]
     BadSpec { at: usize, why: SpecWhy },
     /// Memory ran out.

@@ -4,7 +4,8 @@ ghost use Rattle.conda_clause.specs.Kept.{drops_behind, has_gap, is_joint, kept,
 use conda_base::Text;
 use std::alloc::{AllocError, Global};
 
-/// The runs of characters of a text that are no spaces, with one space between them where it isn't dropped.
+/// The runs of characters of a text that are no spaces, with one space between them where it isn't
+/// dropped.
 #[derive(Debug, Drop)]
 pub struct Kept {
     pub text: Text,
@@ -46,7 +47,8 @@ fn last_of(last: Option<u8>, run: &[u8]) -> Option<u8>
 
 fn add_places(places: &mut Vec<usize>, at: usize, run: &[u8]) -> Result<(), AllocError>
     requires { at + length run.now < 2 ^ 64 }
-    ensures { OnOk result (places.new.items ≡ places.old.items ++ map (λ m. m.0) (marks_at at run.now)) }
+    ensures { OnOk result
+        (places.new.items ≡ places.old.items ++ map (λ m. m.0) (marks_at at run.now)) }
 {
     for i in 0..run.len() {
         places.push(at + i)?;
@@ -63,8 +65,11 @@ fn add_run(
     run: &str,
 ) -> Result<(), AllocError>
     requires { at + length run.now < 2 ^ 64 }
-    ensures text { OnOk result (string_bytes text.new ≡ string_bytes text.old ++ map (λ m. m.1) (run_marks last at run.now)) }
-    ensures places { OnOk result (places.new.items ≡ places.old.items ++ map (λ m. m.0) (run_marks last at run.now)) }
+    ensures text { OnOk result
+        (string_bytes text.new
+        ≡ string_bytes text.old ++ map (λ m. m.1) (run_marks last at run.now)) }
+    ensures places { OnOk result
+        (places.new.items ≡ places.old.items ++ map (λ m. m.0) (run_marks last at run.now)) }
 {
     let Some(first) = run.as_bytes().first() else {
         return Ok(());
@@ -77,8 +82,8 @@ fn add_run(
     add_places(places, at, run.as_bytes())
 }
 
-/// Drops the spaces at the ends, those before and behind `,` and `|`, and those behind `<`, `>` and `=`. What other spaces
-/// stand between two runs becomes one space.
+/// Drops the spaces at the ends, those before and behind `,` and `|`, and those behind `<`, `>` and
+/// `=`. What other spaces stand between two runs becomes one space.
 pub fn keep(alloc: Global, text: &str) -> Result<Kept, AllocError>
     ensures text { IfOk result (λ k. k.text ≡ kept text.now) }
     ensures places { IfOk result (λ k. k.places.items ≡ places text.now) }

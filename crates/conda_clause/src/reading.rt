@@ -62,7 +62,8 @@ fn read_next(
     made: &mut Vec<Token>,
 ) -> Result<Result<(Wanted, usize), SpecWhy>, AllocError>
     ensures step { IfOk result (λ s. s ≡ step wanted depth (token_of piece.now)) }
-    ensures made { OnOk result (made.new.items ≡ made.old.items ++ cons_option (token_of piece.now) []) }
+    ensures made { OnOk result
+        (made.new.items ≡ made.old.items ++ cons_option (token_of piece.now) []) }
 {
     let token = read_piece(alloc, piece)?;
     let next = step(wanted, depth, &token);
@@ -86,7 +87,8 @@ fn left_fault(
     made: &mut Vec<Token>,
 ) -> Result<Option<(usize, SpecWhy)>, AllocError>
     ensures fault { IfOk result (λ f. f ≡ fault_from Wanted.Atom 0 0 (pieces text.now)) }
-    ensures tokens { IfOk result (λ f. f ≡ None → made.new.items ≡ made.old.items ++ tokens text.now) }
+    ensures tokens { IfOk result
+        (λ f. f ≡ None → made.new.items ≡ made.old.items ++ tokens text.now) }
 {
     let mut wanted = Wanted::Atom;
     let mut depth = 0;
@@ -136,7 +138,8 @@ pub fn read_tokens(
     made: &mut Vec<Token>,
 ) -> Result<Option<(usize, SpecWhy)>, AllocError>
     ensures fault { IfOk result (λ f. f ≡ clause_fault text.now) }
-    ensures tokens { IfOk result (λ f. f ≡ None → made.new.items ≡ made.old.items ++ tokens text.now) }
+    ensures tokens { IfOk result
+        (λ f. f ≡ None → made.new.items ≡ made.old.items ++ tokens text.now) }
 {
     let found = left_fault(alloc, text, made)?;
     Ok(lesser(unclosed(text), found))

@@ -9,8 +9,8 @@ enum Letters {
     Lowered,
 }
 
-/// Whether a text is of a pattern, in which `*` stands for any characters, also none, and every other one for itself.
-/// It takes no memory, and time at most as the product of both lengths.
+/// Whether a text is of a pattern, in which `*` stands for any characters, also none, and every
+/// other one for itself. It takes no memory, and time at most as the product of both lengths.
 pub fn glob(pattern: &str, text: &str) -> bool
     ensures { result ≡ glob_matches pattern.now text.now }
 {
@@ -33,14 +33,16 @@ fn letter(letters: Letters, b: u8) -> u8
     }
 }
 
-// Takes as few characters as it can for each star. Where what is behind the last star does not fit, that star takes one more: no
-// earlier star has to, since what a later one takes can make up for it.
+// Takes as few characters as it can for each star. Where what is behind the last star does not fit,
+// that star takes one more: no earlier star has to, since what a later one takes can make up for
+// it.
 fn is_of(pattern: &[u8], text: &[u8], letters: Letters) -> bool
     ensures { result ≡ glob_matches pattern.now (map (letter letters) text.now) }
 {
     let mut pattern_left = pattern;
     let mut left = text;
-    // What stood behind the last star and what was left of the text there. Before the first star no text is left to it.
+    // What stood behind the last star and what was left of the text there. Before the first star no
+    // text is left to it.
     let mut behind_star = pattern;
     let mut star_left: &[u8] = &[];
     loop {

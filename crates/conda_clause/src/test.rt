@@ -1,7 +1,9 @@
-ghost use Rattle.std.specs.Prelude.{◌≡◌, ◌≤◌, ◌<◌, IfOk, IfSome, false, length, true};
+ghost use Rattle.std.specs.Prelude.{◌≡◌, ◌≤◌, ◌<◌, IfOk, false, length, true};
 ghost use Rattle.std.specs.List.{list_all};
-ghost use Rattle.conda_clause.specs.Tests.{ends_with, is_any, is_equal_sign, is_version_char, last_dot, shortened, sign_len, sign_of, signed, test_holds, test_of, test_with, version_text, without_last_part, without_star};
+ghost use Rattle.conda_base.specs.Texts.{ends_with};
+ghost use Rattle.conda_clause.specs.Tests.{is_any, is_equal_sign, is_version_char, shortened, sign_len, sign_of, signed, test_holds, test_of, test_with, version_text, without_last_part, without_star};
 
+use conda_base::cut_last;
 use conda_version::{Version, VersionErr};
 use std::alloc::{AllocError, Global};
 
@@ -165,26 +167,11 @@ fn version_of(alloc: Global, text: &[u8]) -> Result<Option<Version>, AllocError>
     }
 }
 
-// The place of the last `.`.
-fn last_dot(text: &[u8]) -> Option<usize>
-    ensures dot { result ≡ last_dot 0 text.now }
-    ensures inside { IfSome result (λ at. at < length text.now) }
-{
-    let mut found = None;
-    for (at, b) in text.iter().enumerate() {
-        if *b == b'.' {
-            found = Some(at);
-        }
-    }
-    found
-}
-
 fn without_last_part(alloc: Global, version: &Version) -> Result<Option<Version>, AllocError>
     ensures { IfOk result (λ v. v ≡ without_last_part version.now) }
 {
-    let text = version.text().as_bytes();
-    match last_dot(text) {
-        Some(at) => version_of(alloc, &text[..at]),
+    match cut_last(version.text(), b'.') {
+        Some((front, _)) => version_of(alloc, front.as_bytes()),
         None => Ok(None),
     }
 }

@@ -1,6 +1,5 @@
 ghost use Rattle.std.specs.Prelude.{◌≡◌, ◌≤◌, ◌<◌, ◌+◌, IfOk, length, ◌^◌};
 ghost use Rattle.conda_clause.specs.Pieces.{begins_test, is_mark, piece_len, token_of};
-ghost use Rattle.conda_clause.specs.Truth.{deeper, is_joint};
 
 use crate::test::{Test, read_test};
 use conda_base::Copied;
@@ -16,37 +15,6 @@ pub enum Token {
     /// `|`
     Or,
     Test(Test),
-}
-
-/// What joins the parts of a clause.
-#[derive(Clone, Copy, Debug)]
-pub enum Joint {
-    Comma,
-    Bar,
-}
-
-impl Token {
-    pub fn is_joint(&self, joint: Joint) -> bool
-        ensures { result ≡ is_joint joint self.now }
-    {
-        match joint {
-            Joint::Comma => matches!(self, Token::And),
-            Joint::Bar => matches!(self, Token::Or),
-        }
-    }
-
-    /// How many parentheses are open behind the token, where so many are open before it.
-    pub fn deeper(&self, depth: usize) -> usize
-        requires { depth + 1 < 2 ^ 64 }
-        ensures depth { result ≡ deeper depth self.now }
-        ensures bound { result ≤ depth + 1 }
-    {
-        match self {
-            Token::Open => depth + 1,
-            Token::Close => depth.saturating_sub(1),
-            Token::And | Token::Or | Token::Test(_) => depth,
-        }
-    }
 }
 
 impl Copied for Token {

@@ -1,77 +1,53 @@
-ghost use Rattle.std.specs.Prelude.{◌≡◌, ◌≤◌, length};
-ghost use Rattle.std.specs.List.{list_all};
-ghost use Rattle.conda_clause.specs.Truth.{atom_true, part_len, parts, tokens_true};
+ghost use Rattle.std.specs.Prelude.{◌≡◌, ◌+◌, ◌≤◌, ◌<◌, ◌^◌, false};
+ghost use Rattle.conda_clause.specs.Truth.{depth_of, read_token, tokens_true};
 
-use crate::token::{Joint, Token};
+use crate::token::Token;
 use conda_version::Version;
 
-// How many tokens stand before the first joint that stands in no parentheses.
-fn part_len(joint: Joint, tokens: &[Token]) -> usize
-    ensures len { result ≡ part_len joint 0 tokens.now }
-    ensures inside { result ≤ length tokens.now }
-{
-    let mut depth = 0;
-    for (at, token) in tokens.iter().enumerate() {
-        if depth == 0 && token.is_joint(joint) {
-            return at;
-        }
-        depth = token.deeper(depth);
-    }
-    tokens.len()
+/// What is done with the tokens behind a token.
+#[derive(Clone, Copy, Debug)]
+pub enum Pass {
+    /// They are read.
+    Read,
+    /// They are passed over, since they can't change what is said. So many parentheses were opened
+    /// in them.
+    Over(usize),
 }
 
-/// Whether tokens hold for a version, at most so many parentheses deep.
-#[cycle(truth)]
-pub fn tokens_true(depth: usize, version: &Version, tokens: &[Token]) -> bool
-    ensures { result ≡ tokens_true depth version.now tokens.now }
+// What is said behind a token, and what is done with those that follow.
+fn read_token(version: &Version, value: bool, pass: Pass, token: &Token) -> (bool, Pass)
+    requires { depth_of pass + 1 < 2 ^ 64 }
+    ensures next { result ≡ read_token version.now value pass token.now }
+    ensures depth { depth_of result.1 ≤ depth_of pass + 1 }
 {
-    if depth == 0 {
-        return false;
-    }
-    let mut left = tokens;
-    loop {
-        let end = part_len(Joint::Bar, left);
-        let (part, rest) = left.split_at(end);
-        if atoms_true(depth - 1, version, part) {
-            return true;
-        }
-        match rest.split_first() {
-            Some((_, behind)) => left = behind,
-            None => return false,
-        }
+    match pass {
+        Pass::Read => match token {
+            Token::Test(test) => (test.holds(version), Pass::Read),
+            Token::Open | Token::Close => (value, Pass::Read),
+            Token::And => (value, if value { Pass::Read } else { Pass::Over(0) }),
+            Token::Or => (value, if value { Pass::Over(0) } else { Pass::Read }),
+        },
+        Pass::Over(depth) => match token {
+            Token::Test(_) | Token::And => (value, Pass::Over(depth)),
+            Token::Open => (value, Pass::Over(depth + 1)),
+            Token::Close if depth == 0 => (value, Pass::Read),
+            Token::Close => (value, Pass::Over(depth - 1)),
+            Token::Or if depth == 0 && !value => (value, Pass::Read),
+            Token::Or => (value, Pass::Over(depth)),
+        },
     }
 }
 
-#[cycle(truth)]
-fn atoms_true(depth: usize, version: &Version, tokens: &[Token]) -> bool
-    ensures { result ≡ list_all (atom_true (tokens_true depth version.now) version.now) (parts Joint.Comma 0 tokens.now) }
+/// Whether tokens hold for a version.
+pub fn tokens_true(version: &Version, tokens: &[Token]) -> bool
+    ensures { result ≡ tokens_true version.now false Pass.Read tokens.now }
 {
-    let mut left = tokens;
-    loop {
-        let end = part_len(Joint::Comma, left);
-        let (part, rest) = left.split_at(end);
-        if !atom_true(depth, version, part) {
-            return false;
-        }
-        match rest.split_first() {
-            Some((_, behind)) => left = behind,
-            None => return true,
-        }
+    let mut value = false;
+    let mut pass = Pass::Read;
+    for token in tokens {
+        let (next, then) = read_token(version, value, pass, token);
+        value = next;
+        pass = then;
     }
-}
-
-#[cycle(truth)]
-fn atom_true(depth: usize, version: &Version, atom: &[Token]) -> bool
-    ensures { result ≡ atom_true (tokens_true depth version.now) version.now atom.now }
-{
-    match atom.split_first() {
-        None => false,
-        Some((Token::Test(test), _)) => test.holds(version),
-        Some((Token::Open, rest)) => tokens_true(
-            depth,
-            version,
-            &rest[..rest.len().saturating_sub(1)],
-        ),
-        Some((Token::Close | Token::And | Token::Or, _)) => false,
-    }
+    value
 }

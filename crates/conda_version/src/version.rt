@@ -1,7 +1,8 @@
-ghost use Rattle.std.specs.Prelude.{◌≡◌, IfErr, IfOk, None, OnOk, true};
+ghost use Rattle.std.specs.Prelude.{◌≡◌, None};
 ghost use Rattle.std.specs.Ordering.{is_le, ordering_reverse};
 ghost use Rattle.std.specs.declared.cmp.Ordering.TheVariants.{Equal};
-ghost use Rattle.conda_version.specs.Grammar.{IsCause, offence};
+ghost use Rattle.conda_base.specs.Reads.{Gives};
+ghost use Rattle.conda_version.specs.Grammar.{offence, version_fault_of, version_read};
 ghost use Rattle.conda_version.specs.Order.{version_cmp, version_starts};
 ghost use Rattle.conda_version.specs.Text.{trimmed};
 
@@ -24,16 +25,17 @@ pub struct Version {
 
 impl Model for Version {
     ghost use Rattle.std.specs.Prelude.{◌≡◌, List, None, ℕ};
-    ghost use Rattle.conda_version.specs.Grammar.{local_of, main_of, offence};
-    ghost use Rattle.conda_version.specs.Text.{plain, trimmed};
+    ghost use Rattle.conda_version.specs.Grammar.{meaning, offence};
+    ghost use Rattle.conda_version.specs.Order.{numbered};
+    ghost use Rattle.conda_version.specs.Text.{trimmed};
 
     ghost Value = { List ℕ };
 
     ghost view = { λ v. v.text };
 
-    ghost inverse = { λ text. record { text = text; main = main_of (plain text); local = local_of (plain text) } };
+    ghost inverse = { λ text. record { text = text; main = numbered (meaning text); local = (meaning text).local } };
 
-    ghost invariant = { λ v. (offence v.text ≡ None) × (trimmed v.text ≡ v.text) × (v.main ≡ main_of (plain v.text)) × (v.local ≡ local_of (plain v.text)) };
+    ghost invariant = { λ v. (offence v.text ≡ None) × (trimmed v.text ≡ v.text) × (v.main ≡ numbered (meaning v.text)) × (v.local ≡ (meaning v.text).local) };
 }
 
 impl Version {
@@ -42,9 +44,7 @@ impl Version {
     ///
     /// Fails with the first fault in the order of [`VersionWhy`](crate::VersionWhy), and where memory runs out.
     pub fn read(alloc: Global, text: &str) -> Result<Version, VersionErr>
-        ensures value { IfOk result (λ v. v ≡ trimmed text.now) }
-        ensures good { OnOk result (offence (trimmed text.now) ≡ None) }
-        ensures bad { IfErr result (λ e. IsCause e (offence (trimmed text.now))) }
+        ensures { Gives version_fault_of result (version_read text.now) }
     {
         let text = trimmed(text);
         let plain = plain(alloc, text.as_bytes())?;

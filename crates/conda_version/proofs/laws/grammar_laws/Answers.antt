@@ -1,0 +1,17 @@
+use Rattle.conda_version.specs.Text.{plain}
+use Rattle.conda_version.proofs.VersionLemmas.{version_again, version_chars, version_end, version_sound}
+use Rattle.conda_version.proofs.laws.grammar_laws.Goals as goal
+
+pub returns-clause-read : goal.returns-clause-read
+returns-clause-read c = λ text good. version_sound (plain text) good
+
+pub returns-clause-only : goal.returns-clause-only
+returns-clause-only c = λ text version h.
+    let found = version_again (plain text) version h in
+    (found.good, found.value)
+
+pub returns-clause-chars : goal.returns-clause-chars
+returns-clause-chars c = λ text good. version_chars (plain text) good
+
+pub returns-clause-end : goal.returns-clause-end
+returns-clause-end c = version_end
