@@ -24,6 +24,7 @@ use Rattle.conda_version.specs.Text.{holds, plain, underscored}
 use Rattle.conda_version.proofs.CutLemmas.{cut_again, cut_free, place_of_free}
 use Rattle.conda_version.proofs.PartLemmas.{epoch_sound, local_sound, parts_whole, rest_is, short_epoch, short_local, short_main}
 use Rattle.conda_version.proofs.RunLemmas.{all_digits, digits_are_all, prefix_of_dots, prefix_of_main_dots, short_back, short_digits, short_from_none, short_front}
+use Rattle.conda_version.proofs.TextLemmas.{ends_back, ends_step}
 use Rattle.conda_version.proofs.TurnLemmas.{IsPiece, all_as, all_both, all_front, component_again, component_sound, is_piece_char, short_before}
 
 abbrev first_half : List ℕ × List ℕ → List ℕ
@@ -89,17 +90,6 @@ part_sound at dotted short chars none =
     (joined_sound at (pieces dotted) some (subst HasShortRuns (sym whole) short) (ap (list_all is_part_char) whole ∙ chars) (pieces_free dotted) none)
 
 -- ---- how texts end
-
-ends_step : (c x y : ℕ) (xs : List ℕ) → ends_with c (x ∷ y ∷ xs) ≡ ends_with c (y ∷ xs)
-ends_step c x y xs =
-    let last : length (x ∷ y ∷ xs) - 1 ≡ suc (length (y ∷ xs) - 1) = omega arith in
-    ap (λ i. option_map_or (λ b. b == c) (slice_get (x ∷ y ∷ xs) i) false) last
-
-ends_back : (c : ℕ) (xs ys : List ℕ) → 0 < length ys → ends_with c (xs ++ ys) ≡ ends_with c ys
-ends_back c [] ys h = refl
-ends_back c (x ∷ []) [] h = absurd (omega arith)
-ends_back c (x ∷ []) (y ∷ ys) h = ends_step c x y ys
-ends_back c (x ∷ y ∷ xs) ys h = ends_step c x y (xs ++ ys) ∙ ends_back c (y ∷ xs) ys h
 
 ends_of_free : (c : ℕ) (xs : List ℕ) → IsFreeOf c xs → ends_with c xs ≡ false
 ends_of_free c [] h = refl

@@ -1,10 +1,10 @@
-ghost use Rattle.std.specs.Prelude.{◌≡◌, List, None, ℕ, false, true};
+ghost use Rattle.std.specs.Prelude.{◌≡◌, ◌++◌, List, None, ℕ, false, true};
 ghost use Rattle.std.specs.Cmp.{IsTotalOrder};
 ghost use Rattle.std.specs.Ordering.{is_le, ordering_reverse};
 ghost use Rattle.std.specs.declared.cmp.Ordering.TheVariants.{Equal};
 ghost use Rattle.std.specs.List.{list_all};
-ghost use Rattle.conda_base.specs.Signs.{dot};
-ghost use Rattle.conda_base.specs.Texts.{ends_with};
+ghost use Rattle.conda_base.specs.Signs.{dot, space};
+ghost use Rattle.conda_base.specs.Texts.{begins_with, ends_with, is_byte};
 ghost use Rattle.conda_version.specs.Grammar.{is_plain, meaning, offence};
 ghost use Rattle.conda_version.specs.Order.{meaning_cmp, meaning_starts, version_cmp, version_starts};
 ghost use Rattle.conda_version.specs.Text.{plain, trimmed};
@@ -22,9 +22,12 @@ pub fn order_laws()
     ensures equals { (u v w : List ℕ) → version_cmp u v ≡ Equal → version_cmp u w ≡ version_cmp v w }
 {}
 
-/// What is trimmed has no more spaces at its ends.
+/// A text is what is trimmed with spaces around it, and nothing is trimmed of a text that neither begins nor ends
+/// with one.
 pub fn trimmed_law()
-    ensures { (text : List ℕ) → trimmed (trimmed text) ≡ trimmed text }
+    ensures whole { (text : List ℕ) → (front : List ℕ) × (back : List ℕ) × (text ≡ front ++ (trimmed text ++ back)) × (list_all (is_byte space) (front ++ back) ≡ true) }
+    ensures bare { (text : List ℕ) → begins_with space text ≡ false → ends_with space text ≡ false → trimmed text ≡ text }
+    ensures twice { (text : List ℕ) → trimmed (trimmed text) ≡ trimmed text }
 {}
 
 /// The grammar of versions and what is read: every text of the grammar is read, with the value that the grammar gives,
