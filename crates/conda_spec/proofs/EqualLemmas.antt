@@ -18,7 +18,8 @@ use Rattle.conda_clause.specs.declared.token.Token.TheVariants as token
 use Rattle.conda_clause.specs.declared.token.Token.TheVariants.{And, Close, Open, Or}
 use Rattle.conda_clause.specs.Clause.{after, beside_build, clause_fault, fault_from, is_single, lesser, starred, step, unclosed}
 use Rattle.conda_clause.specs.Pieces.{is_mark, pieces, token_of, tokens}
-use Rattle.conda_clause.specs.Tests.{ends_with, is_any, shortened, sign_len, sign_of, test_of, test_with, version_text, without_star}
+use Rattle.conda_base.specs.Texts.{ends_with}
+use Rattle.conda_clause.specs.Tests.{is_any, shortened, sign_len, sign_of, test_of, test_with, version_text, without_star}
 
 -- What a piece and a fault are.
 

@@ -21,7 +21,7 @@ use Rattle.conda_spec.specs.declared.given.Given.{Given}
 use Rattle.conda_spec.specs.declared.given.ItemKey.{ItemKey}
 use Rattle.conda_spec.specs.declared.given.ItemKey.TheVariants as keys
 use Rattle.conda_spec.specs.Cuts.{cut_colons, without_last}
-use Rattle.conda_spec.specs.Grammar.{BeginsClause, Follows, IsFront, IsItem, IsItems, IsNamed, IsPlainVersion, IsSpecText, IsValue, IsWords, Writes, ends_here}
+use Rattle.conda_spec.specs.Grammar.{BeginsClause, Follows, IsFront, IsItem, IsItems, IsNamed, IsPlainVersion, IsSpecText, IsValue, IsWords, IsClauseOf, ends_here}
 use Rattle.conda_spec.specs.Grammar.BeginsClause.{behind_one, behind_two, compares}
 use Rattle.conda_spec.specs.Grammar.Follows.{end, equal, equal_build, signs, spaced, spaced_equal, starts, starts_build}
 use Rattle.conda_spec.specs.Grammar.IsFront.{alone as front_alone, in_channel, in_subdir}
@@ -52,7 +52,7 @@ build_reads : (at : ℕ) (text : List ℕ) → IsFreeWord bars_build text → bu
 unfolding build_at
 build_reads at text h = rw (free_is bars_build text h) refl
 
-clause_gives : (place : ℕ → ℕ) (start added : ℕ) (text clause : List ℕ) → Writes text clause → clause_at place start added text ≡ Ok clause
+clause_gives : (place : ℕ → ℕ) (start added : ℕ) (text clause : List ℕ) → IsClauseOf text clause → clause_at place start added text ≡ Ok clause
 unfolding clause_at
 clause_gives place start added text clause h =
     let placed : Option (ℕ × SpecWhy) → Option (ℕ × SpecWhy) = option_map (λ fault. (place (start + (fault.0 - added)), fault.1)) in
@@ -69,14 +69,14 @@ spaceless_word (b ∷ bs) h =
     by true e g = absurd (true≢false (sym g ∙ ap (λ c. is_clause_char (to_ascii_lowercase c)) (eqb-true b space e)))
 
 -- no space stands in the text of a version clause
-clause_spaces : (l : Laws) (word clause : List ℕ) → Writes word clause → IsFreeOf space word
+clause_spaces : (l : Laws) (word clause : List ℕ) → IsClauseOf word clause → IsFreeOf space word
 clause_spaces l word clause h = spaceless_word word (sym (ap (list_all is_clause_char) h.0) ∙ l.chars clause h.1)
 
 no_slip : (b : ℕ) (mark : ℕ) → (b == mark) ≡ true → to_ascii_lowercase mark ≡ mark → to_ascii_lowercase b ≡ mark
 no_slip b mark e own = ap to_ascii_lowercase (eqb-true b mark e) ∙ own
 
 -- it begins with no joint
-clause_begins : (l : Laws) (word clause : List ℕ) → Writes word clause → (b : ℕ) × (bs : List ℕ) × (word ≡ b ∷ bs) × (is_joint b ≡ false)
+clause_begins : (l : Laws) (word clause : List ℕ) → IsClauseOf word clause → (b : ℕ) × (bs : List ℕ) × (word ≡ b ∷ bs) × (is_joint b ≡ false)
 clause_begins l [] clause h = let some = l.some clause h.1 in absurd (omega (arith, some, ap length h.0))
 clause_begins l (b ∷ bs) clause h = (b, bs, refl, by (b == 44) refl (b == 124) refl)
   where
@@ -112,11 +112,11 @@ words_gives l place word text version build (with_build w clause b h k) =
     ∙ ap (λ (r : SpecRead (List ℕ)). r >>= λ c. build_word place (length w + 1) b >>= λ d. Ok (Some c, Some d)) (clause_gives place 0 0 w clause h)
     ∙ ap (λ (r : SpecRead (List ℕ)). r >>= λ d. Ok (Some clause, Some d)) (word_gives l place (length w + 1) b k)
 
-equal_gives : (place : ℕ → ℕ) (start : ℕ) (v clause : List ℕ) → Writes (equal_to v) clause → equal_at place start v ≡ Ok clause
+equal_gives : (place : ℕ → ℕ) (start : ℕ) (v clause : List ℕ) → IsClauseOf (equal_to v) clause → equal_at place start v ≡ Ok clause
 unfolding equal_at
 equal_gives place start v clause h = by (ends_with 42 v) h
   where
-    by : (k : Bool) → Writes (cond k v (codes "==" ++ v)) clause → cond k (clause_at place start 0 v) (clause_at place start 2 (codes "==" ++ v)) ≡ Ok clause
+    by : (k : Bool) → IsClauseOf (cond k v (codes "==" ++ v)) clause → cond k (clause_at place start 0 v) (clause_at place start 2 (codes "==" ++ v)) ≡ Ok clause
     by true w = clause_gives place start 0 v clause w
     by false w = clause_gives place start 2 (codes "==" ++ v) clause w
 
@@ -152,7 +152,7 @@ spaced_gives l place word text version build (with_build w clause b h k) other =
 is_equal : (v : List ℕ) → NoneOf is_sign_or_equals v → is_equal_word (equals ∷ v) ≡ true
 is_equal v h = rw (none_any is_sign_or_equals v h) refl
 
-spaced_equal_gives : (l : Laws) (place : ℕ → ℕ) (v clause build : List ℕ) → IsPlainVersion v → Writes (equal_to v) clause → IsFreeWord bars_build build
+spaced_equal_gives : (l : Laws) (place : ℕ → ℕ) (v clause build : List ℕ) → IsPlainVersion v → IsClauseOf (equal_to v) clause → IsFreeWord bars_build build
     → wanted_read place true ((equals ∷ v) ++ space ∷ build) ≡ Ok (Some clause, Some build)
 unfolding spaced_read words_read wanted_read
 spaced_equal_gives l place v clause build p w k =
@@ -279,14 +279,14 @@ joined_two place tail cut r e h = ap (joined_cut place (equals ∷ equals ∷ ta
 plain_signs : (v : List ℕ) → IsPlainVersion v → NoneOf is_sign v
 plain_signs v p = fewer is_sign_or_equals is_sign free_of_signs v p.0
 
-starts_gives : (l : Laws) (place : ℕ → ℕ) (v clause : List ℕ) → IsPlainVersion v → Writes (equals ∷ v) clause → wanted_read place false (equals ∷ v) ≡ Ok (Some clause, None)
+starts_gives : (l : Laws) (place : ℕ → ℕ) (v clause : List ℕ) → IsPlainVersion v → IsClauseOf (equals ∷ v) clause → wanted_read place false (equals ∷ v) ≡ Ok (Some clause, None)
 starts_gives l place v clause p w =
     let cut : cut_first equals v ≡ None = (l.no_first equals v).1 (plain_equals v p.0) in
     let first : begins_with equals v ≡ false = no_equals_first v (plain_equals v p.0) in
     one_word l place v v (Some clause, None) (refl, p.1) (version_one v first ∙ ap (λ c. before_equals c v) cut) (plain_signs v p)
     (joined_one place v None (Some clause, None) first cut (ap (λ (r : SpecRead (List ℕ)). r >>= λ c. Ok (Some c, None)) (clause_gives place 0 0 (equals ∷ v) clause w)))
 
-equal_is_read : (l : Laws) (place : ℕ → ℕ) (v clause : List ℕ) → IsPlainVersion v → Writes (equals ∷ equals ∷ v) clause → wanted_read place false (equals ∷ equals ∷ v) ≡ Ok (Some clause, None)
+equal_is_read : (l : Laws) (place : ℕ → ℕ) (v clause : List ℕ) → IsPlainVersion v → IsClauseOf (equals ∷ equals ∷ v) clause → wanted_read place false (equals ∷ equals ∷ v) ≡ Ok (Some clause, None)
 equal_is_read l place v clause p w =
     let cut : cut_first equals v ≡ None = (l.no_first equals v).1 (plain_equals v p.0) in
     one_word l place (equals ∷ v) v (Some clause, None) (refl, (refl, p.1)) (ap (λ c. before_equals c v) cut) (plain_signs v p)
@@ -299,13 +299,13 @@ build_free : (v build : List ℕ) → IsPlainVersion v → IsFreeWord bars_build
 build_free v build p k = none_in_both (is_byte space) v (equals ∷ build) p.1 (refl, build_spaces build k)
 
 -- `==` alone is no version clause
-equal_some : (l : Laws) (v clause : List ℕ) → Writes (equal_to v) clause → v ≢ []
+equal_some : (l : Laws) (v clause : List ℕ) → IsClauseOf (equal_to v) clause → v ≢ []
 equal_some l v clause w e =
-    let bad : Writes (codes "==") clause = subst (λ t. Writes (equal_to t) clause) e w in
+    let bad : IsClauseOf (codes "==") clause = subst (λ t. IsClauseOf (equal_to t) clause) e w in
     let ends = l.back clause bad.1 in
     true≢false (ap (ends_with 61) (sym bad.0) ∙ ends.4)
 
-starts_build_gives : (l : Laws) (place : ℕ → ℕ) (v clause build : List ℕ) → IsPlainVersion v → Writes (equal_to v) clause → IsFreeWord bars_build build
+starts_build_gives : (l : Laws) (place : ℕ → ℕ) (v clause build : List ℕ) → IsPlainVersion v → IsClauseOf (equal_to v) clause → IsFreeWord bars_build build
     → wanted_read place false (equals ∷ (v ++ equals ∷ build)) ≡ Ok (Some clause, Some build)
 starts_build_gives l place v clause build p w k =
     let tail : List ℕ = v ++ equals ∷ build in
@@ -320,7 +320,7 @@ starts_build_gives l place v clause build p w k =
     not_first [] some free = absurd (some refl)
     not_first (b ∷ bs) some free = free.0
 
-equal_build_gives : (l : Laws) (place : ℕ → ℕ) (v clause build : List ℕ) → IsPlainVersion v → Writes (equals ∷ equals ∷ v) clause → IsFreeWord bars_build build
+equal_build_gives : (l : Laws) (place : ℕ → ℕ) (v clause build : List ℕ) → IsPlainVersion v → IsClauseOf (equals ∷ equals ∷ v) clause → IsFreeWord bars_build build
     → wanted_read place false (equals ∷ equals ∷ (v ++ equals ∷ build)) ≡ Ok (Some clause, Some build)
 equal_build_gives l place v clause build p w k =
     let tail : List ℕ = v ++ equals ∷ build in

@@ -4,9 +4,9 @@ use Rattle.std.specs.List.{list_all}
 use Rattle.std.specs.Fmt.{decimal}
 use Rattle.std.specs.Str.Parse.{digits_value}
 use Rattle.conda_base.specs.Numbers.{digits_below, is_digits, number_below}
-use Rattle.conda_base.specs.Texts.{IsFreeOf, cut_first, cut_last}
+use Rattle.conda_base.specs.Signs.{bar, comma, equals, greater, less}
+use Rattle.conda_base.specs.Texts.{IsFreeOf, cut_first, cut_last, ends_with}
 use Rattle.conda_clause.specs.Clause.{clause_fault, is_clause_char}
-use Rattle.conda_clause.specs.Tests.{ends_with}
 
 pub record Laws : Type 0 where
   pub first : (mark : ℕ) (text before behind : List ℕ) → (cut_first mark text ≡ Some (before, behind)) ↔ ((text ≡ before ++ mark ∷ behind) × IsFreeOf mark before)
@@ -17,5 +17,5 @@ pub record Laws : Type 0 where
   pub digits : (limit : ℕ) (text : List ℕ) (n : ℕ) → (digits_below limit text ≡ Some n) ↔ ((is_digits text ≡ true) × (digits_value 10 text ≡ n) × (n < limit))
   pub some : (text : List ℕ) → clause_fault text ≡ None → 0 < length text
   pub chars : (text : List ℕ) → clause_fault text ≡ None → list_all is_clause_char text ≡ true
-  pub front : (text : List ℕ) → clause_fault text ≡ None → (bs : List ℕ) → (text ≡ 44 ∷ bs → ⊥) × (text ≡ 124 ∷ bs → ⊥)
-  pub back : (text : List ℕ) → clause_fault text ≡ None → (ends_with 44 text ≡ false) × (ends_with 124 text ≡ false) × (ends_with 60 text ≡ false) × (ends_with 62 text ≡ false) × (ends_with 61 text ≡ false)
+  pub front : (text : List ℕ) → clause_fault text ≡ None → (bs : List ℕ) → (text ≡ comma ∷ bs → ⊥) × (text ≡ bar ∷ bs → ⊥)
+  pub back : (text : List ℕ) → clause_fault text ≡ None → (ends_with comma text ≡ false) × (ends_with bar text ≡ false) × (ends_with less text ≡ false) × (ends_with greater text ≡ false) × (ends_with equals text ≡ false)

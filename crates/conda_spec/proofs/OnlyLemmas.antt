@@ -22,7 +22,7 @@ use Rattle.conda_spec.specs.declared.given.Given.{Given}
 use Rattle.conda_spec.specs.declared.given.ItemKey.{ItemKey}
 use Rattle.conda_spec.specs.declared.given.ItemKey.TheVariants as keys
 use Rattle.conda_spec.specs.Cuts.{cut_colons, without_last}
-use Rattle.conda_spec.specs.Grammar.{BeginsClause, Follows, IsFront, IsItem, IsItems, IsNamed, IsPlainVersion, IsSpecText, IsValue, IsWords, Writes, ends_here}
+use Rattle.conda_spec.specs.Grammar.{BeginsClause, Follows, IsFront, IsItem, IsItems, IsNamed, IsPlainVersion, IsSpecText, IsValue, IsWords, IsClauseOf, ends_here}
 use Rattle.conda_spec.specs.Grammar.BeginsClause.{behind_one, behind_two, compares}
 use Rattle.conda_spec.specs.Grammar.Follows.{end, equal, equal_build, signs, spaced, spaced_equal, starts, starts_build}
 use Rattle.conda_spec.specs.Grammar.IsFront.{alone as front_alone, in_channel, in_subdir}
@@ -68,7 +68,7 @@ free_only bars fault (b ∷ rest) x h =
     (same, subst (IsFreeWord bars) same (free_is bars (b ∷ rest) (omega arith) (not-true (list_any bars (b ∷ rest)) (second_so (nat_lt 0 (length (b ∷ rest))) (not (list_any bars (b ∷ rest))) p.0))))
 
 -- a version clause that is read is written by the text
-clause_only : (place : ℕ → ℕ) (start added : ℕ) (text clause : List ℕ) → clause_at place start added text ≡ Ok clause → Writes text clause
+clause_only : (place : ℕ → ℕ) (start added : ℕ) (text clause : List ℕ) → clause_at place start added text ≡ Ok clause → IsClauseOf text clause
 unfolding clause_at
 clause_only place start added text clause h =
     let placed : Option (ℕ × SpecWhy) → Option (ℕ × SpecWhy) = option_map (λ fault. (place (start + (fault.0 - added)), fault.1)) in
@@ -168,11 +168,11 @@ equal_word (b ∷ bs) h = by (b == equals) refl (list_any is_sign_or_equals bs) 
     by false e m f g = absurd (true≢false (sym g))
 
 -- "equal to V"
-equal_only : (place : ℕ → ℕ) (start : ℕ) (v clause : List ℕ) → equal_at place start v ≡ Ok clause → Writes (equal_to v) clause
+equal_only : (place : ℕ → ℕ) (start : ℕ) (v clause : List ℕ) → equal_at place start v ≡ Ok clause → IsClauseOf (equal_to v) clause
 unfolding equal_at
 equal_only place start v clause h = by (ends_with 42 v) h
   where
-    by : (k : Bool) → cond k (clause_at place start 0 v) (clause_at place start 2 (codes "==" ++ v)) ≡ Ok clause → Writes (cond k v (codes "==" ++ v)) clause
+    by : (k : Bool) → cond k (clause_at place start 0 v) (clause_at place start 2 (codes "==" ++ v)) ≡ Ok clause → IsClauseOf (cond k v (codes "==" ++ v)) clause
     by true e = clause_only place start 0 v clause e
     by false e = clause_only place start 2 (codes "==" ++ v) clause e
 

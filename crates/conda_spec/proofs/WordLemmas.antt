@@ -9,11 +9,10 @@ use Rattle.std.specs.Char.{to_ascii_lowercase}
 use Rattle.std.specs.List.{list_all, slice_get}
 use Rattle.std.specs.Option.{option_map_or, option_or}
 use Rattle.conda_base.specs.Signs.{bar, colon, close_bracket, comma, equals, greater, less, space}
-use Rattle.conda_base.specs.Texts.{IsFreeOf, begins_with, is_byte}
+use Rattle.conda_base.specs.Texts.{IsFreeOf, begins_with, ends_with, is_byte}
 use Rattle.conda_clause.specs.Clause.{beside_build, clause_fault, is_clause_char}
 use Rattle.conda_clause.specs.Kept.{drops_behind, is_joint, kept, last_of}
-use Rattle.conda_clause.specs.Tests.{ends_with}
-use Rattle.conda_spec.specs.Grammar.{Follows, IsNamed, Writes, ends_here}
+use Rattle.conda_spec.specs.Grammar.{Follows, IsNamed, IsClauseOf, ends_here}
 use Rattle.conda_spec.specs.Grammar.Follows.{end, spaced}
 use Rattle.conda_spec.specs.Grammar.IsNamed.{named}
 use Rattle.conda_spec.specs.Grammar.IsWords.{alone, with_build}
@@ -39,7 +38,7 @@ pub record IsClauseWord (clause : List ℕ) : Type 0 where
   pub stays : drops_behind last ≡ false
   pub begins : is_joint first ≡ false
   pub chars : NoneOf bars_clause clause
-  pub writes : Writes clause clause
+  pub writes : IsClauseOf clause clause
 
 clause_char : (b : ℕ) → is_clause_char b ≡ true → bars_clause b ≡ false
 clause_char b h = grind (arith, nat_tests)

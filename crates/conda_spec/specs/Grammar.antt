@@ -12,8 +12,8 @@ use Rattle.conda_spec.specs.Parts.{IsFreeWord, NoneOf, Parts, bars_build, bars_c
 use Rattle.conda_spec.specs.Reading.{Front, bars_bare, ends_name, equal_to, is_comparison, is_quote, is_sign, is_sign_or_equals, nothing, parts_of}
 
 -- The text writes this version clause: it is the clause but for the case of its letters.
-abbrev pub Writes : List ℕ → List ℕ → Type 0
-Writes text clause = (clause ≡ map to_ascii_lowercase text) × (clause_fault clause ≡ None)
+abbrev pub IsClauseOf : List ℕ → List ℕ → Type 0
+IsClauseOf text clause = (clause ≡ map to_ascii_lowercase text) × (clause_fault clause ≡ None)
 
 -- ---- what follows a name
 
@@ -23,8 +23,8 @@ IsPlainVersion v = NoneOf is_sign_or_equals v × NoneOf (is_byte space) v
 
 -- A version clause alone, or a version clause, a space and a build. The first text is the clause as it is written.
 pub data IsWords : List ℕ → List ℕ → Option (List ℕ) → Option (List ℕ) → Type 0 where
-  alone : (word clause : List ℕ) → Writes word clause → IsWords word word (Some clause) None
-  with_build : (word clause build : List ℕ) → Writes word clause → IsFreeWord bars_build build → IsWords word (word ++ space ∷ build) (Some clause) (Some build)
+  alone : (word clause : List ℕ) → IsClauseOf word clause → IsWords word word (Some clause) None
+  with_build : (word clause build : List ℕ) → IsClauseOf word clause → IsFreeWord bars_build build → IsWords word (word ++ space ∷ build) (Some clause) (Some build)
 
 -- A version clause that begins directly behind a name: with `<`, `>`, `!` or `~`, or with `=` or `==` where one of the signs that
 -- V doesn't hold comes before a further `=`.
@@ -39,17 +39,17 @@ pub data Follows : Bool → List ℕ → Option (List ℕ) → Option (List ℕ)
   -- nothing
   end : (spaced : Bool) → Follows spaced [] None None
   -- `=V`
-  starts : (v clause : List ℕ) → IsPlainVersion v → Writes (equals ∷ v) clause → Follows false (equals ∷ v) (Some clause) None
+  starts : (v clause : List ℕ) → IsPlainVersion v → IsClauseOf (equals ∷ v) clause → Follows false (equals ∷ v) (Some clause) None
   -- `==V`
-  equal : (v clause : List ℕ) → IsPlainVersion v → Writes (equals ∷ equals ∷ v) clause → Follows false (equals ∷ equals ∷ v) (Some clause) None
+  equal : (v clause : List ℕ) → IsPlainVersion v → IsClauseOf (equals ∷ equals ∷ v) clause → Follows false (equals ∷ equals ∷ v) (Some clause) None
   -- `=V=B`
-  starts_build : (v clause build : List ℕ) → IsPlainVersion v → Writes (equal_to v) clause → IsFreeWord bars_build build
+  starts_build : (v clause build : List ℕ) → IsPlainVersion v → IsClauseOf (equal_to v) clause → IsFreeWord bars_build build
       → Follows false (equals ∷ (v ++ equals ∷ build)) (Some clause) (Some build)
   -- `==V=B`
-  equal_build : (v clause build : List ℕ) → IsPlainVersion v → Writes (equals ∷ equals ∷ v) clause → IsFreeWord bars_build build
+  equal_build : (v clause build : List ℕ) → IsPlainVersion v → IsClauseOf (equals ∷ equals ∷ v) clause → IsFreeWord bars_build build
       → Follows false (equals ∷ equals ∷ (v ++ equals ∷ build)) (Some clause) (Some build)
   -- a space and `=V B`
-  spaced_equal : (v clause build : List ℕ) → IsPlainVersion v → Writes (equal_to v) clause → IsFreeWord bars_build build
+  spaced_equal : (v clause build : List ℕ) → IsPlainVersion v → IsClauseOf (equal_to v) clause → IsFreeWord bars_build build
       → Follows true ((equals ∷ v) ++ space ∷ build) (Some clause) (Some build)
   -- a space and `V`, or a space and `V B` where V is none of the form above
   spaced : (word text : List ℕ) (version build : Option (List ℕ)) → IsWords word text version build
@@ -88,7 +88,7 @@ pub data IsValue : List ℕ → List ℕ → Type 0 where
 
 -- An item `key=value`, behind what the items before it give: no item of its key stands before it.
 pub data IsItem : Given → List ℕ → Given → Type 0 where
-  version : (given : Given) (written value clause : List ℕ) → given.version ≡ None → IsValue written value → Writes (kept value) clause
+  version : (given : Given) (written value clause : List ℕ) → given.version ≡ None → IsValue written value → IsClauseOf (kept value) clause
       → IsItem given (codes "version=" ++ written) (record given { version = Some clause })
   build : (given : Given) (written value : List ℕ) → given.build ≡ None → IsValue written value → IsFreeWord bars_build value
       → IsItem given (codes "build=" ++ written) (record given { build = Some value })

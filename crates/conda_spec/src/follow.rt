@@ -11,7 +11,7 @@ ghost use Rattle.conda_spec.specs.Reading.{build_word, clause_at, equal_at, equa
 use crate::cuts::{begins_with, behind};
 use crate::places::Places;
 use crate::stay::stay;
-use crate::values::{build_at, clause_at, equal_at, fault, holds_one_of, is_one_of};
+use crate::values::{build_at, clause_at, equal_at, fault, is_one_of};
 use conda_base::{Text, cut_first};
 use conda_clause::{SpecErr, SpecWhy, VersionClause};
 use std::alloc::Global;
@@ -67,6 +67,12 @@ fn is_joint(b: u8) -> bool
     ensures { result ≡ kept.is_joint b }
 {
     b == b',' || b == b'|'
+}
+
+fn holds_sign(text: &[u8]) -> bool
+    ensures { result ≡ list_any is_sign text.now }
+{
+    text.iter().any(|b| is_sign(*b))
 }
 
 fn holds_sign_or_equals(text: &[u8]) -> bool
@@ -177,14 +183,14 @@ fn equals(alloc: Global, places: &Places, text: &str) -> Result<VersionAndBuild,
 {
     match cut_first(text, b' ') {
         None => {
-            if holds_one_of(b",|<>!~(", version_of(text).as_bytes()) {
+            if holds_sign(version_of(text).as_bytes()) {
                 words(alloc, places, text)
             } else {
                 joined(alloc, places, text)
             }
         }
         Some((word, _)) => {
-            if holds_one_of(b",|<>!~(", version_of(word).as_bytes()) {
+            if holds_sign(version_of(word).as_bytes()) {
                 words(alloc, places, text)
             } else {
                 let _wanted = joined(alloc, places, word)?;

@@ -26,8 +26,8 @@ pub fn fault(at: usize, why: SpecWhy) -> SpecErr
     SpecErr::BadSpec { at, why }
 }
 
-/// Whether a text holds one of these.
-pub fn holds_one_of(signs: &[u8], text: &[u8]) -> bool
+// Whether a text holds one of these.
+fn holds_one_of(signs: &[u8], text: &[u8]) -> bool
     ensures { result ≡ list_any (is_one_of signs.now) text.now }
 {
     text.iter().any(|b| is_one_of(signs, *b))
