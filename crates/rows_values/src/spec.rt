@@ -9,7 +9,13 @@ pub fn answer(alloc: Global, call: &str, arguments: &[Text]) -> Result<Option<St
         ("spec", [text]) => form(alloc, text.as_str()),
         ("spec.glob", [text]) => glob(alloc, text.as_str()),
         ("spec.names", [text, name, version, build, number, channel, subdir]) => {
-            let looks = Looks { name, build, number, channel, subdir };
+            let looks = Looks {
+                name,
+                build,
+                number,
+                channel,
+                subdir,
+            };
             names(alloc, text.as_str(), version.as_str(), &looks)
         }
         _ => Ok(None),
@@ -17,6 +23,7 @@ pub fn answer(alloc: Global, call: &str, arguments: &[Text]) -> Result<Option<St
 }
 
 /// What a package is looked at by, beside its version.
+#[derive(Drop)]
 struct Looks<'a> {
     name: &'a Text,
     build: &'a Text,
