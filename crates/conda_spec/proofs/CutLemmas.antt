@@ -1,83 +1,14 @@
 -- Cuts of a text, as std's methods give them.
 use Rattle.std.proofs.Common.{◌≡◌, ◌≢◌, ◌==◌, ◌&&◌, ◌≤◌, ◌<◌, ◌+◌, ◌⊎◌, ℕ, Bool, true, false, cond, length, List, [], ◌∷◌, ◌++◌, take, drop, get_or, refl, sym, ap, ◌∙◌, arith, true≢false, Option, Some, None, MatchOption, inl, inr, suc, zero, Bor}
 use Rattle.std.specs.Option.{option_map}
-use Rattle.std.specs.List.{before_first, after_first, position_or_len}
-use Rattle.std.specs.Str.Pattern.{FindsText, RFindsChar}
+use Rattle.std.specs.Str.Pattern.{FindsText}
 use Rattle.std.proofs.lemmas.Bool.{eqb-true, eq-eqb}
 use Rattle.std.proofs.lemmas.Bool.Decides.{eqb_tells}
-use Rattle.std.proofs.lemmas.Str.Pattern.{IsSplitOnceResult, NoCharPasses-char, drop_at_char, split_once_first}
-use Rattle.conda_spec.specs.Cuts.{begins_with, in_front, last_cut, around_colons, around_first, around_last, without_last}
+use Rattle.conda_base.specs.Texts.{begins_with, in_front}
+use Rattle.conda_spec.specs.Cuts.{cut_colons, without_last}
 
 same_test : (b : ℕ) → (b == b) ≡ true
 same_test b = eq-eqb b b refl
-
--- the first such character
-
-pub first_cut : (mark : ℕ) (s : List ℕ) → position_or_len (λ b. b == mark) s < length s → around_first mark s ≡ Some (before_first (λ b. b == mark) s, after_first (λ b. b == mark) s)
-first_cut mark [] h = absurd (omega (arith, h))
-first_cut mark (b ∷ bs) h = by (b == mark) refl (first_cut mark bs)
-  where
-    by : (v : Bool) → (b == mark) ≡ v → (position_or_len (λ b. b == mark) bs < length bs → around_first mark bs ≡ Some (before_first (λ b. b == mark) bs, after_first (λ b. b == mark) bs)) → around_first mark (b ∷ bs) ≡ Some (before_first (λ b. b == mark) (b ∷ bs), after_first (λ b. b == mark) (b ∷ bs))
-    by true e more = rw e refl
-    by false e more =
-        let m : ℕ = position_or_len (λ b. b == mark) bs in
-        let n : position_or_len (λ b. b == mark) (b ∷ bs) ≡ suc m = rw e (omega arith) in
-        let inner : m < length bs = omega (arith, h, n) in
-        let step : suc (m + 1) ≡ suc m + 1 = omega arith in
-        ap (λ k. cond k (Some ([], bs)) (option_map (in_front b) (around_first mark bs))) e
-        ∙ ap (option_map (in_front b)) (more inner)
-        ∙ ap (λ q. Some (b ∷ take m bs, drop q (b ∷ bs))) step
-        ∙ sym (ap (λ q. Some (take q (b ∷ bs), drop (q + 1) (b ∷ bs))) n)
-
-pub first_none : (mark : ℕ) (s : List ℕ) → position_or_len (λ b. b == mark) s ≡ length s → around_first mark s ≡ None
-first_none mark [] h = refl
-first_none mark (b ∷ bs) h = by (b == mark) refl (first_none mark bs)
-  where
-    by : (v : Bool) → (b == mark) ≡ v → (position_or_len (λ b. b == mark) bs ≡ length bs → around_first mark bs ≡ None) → around_first mark (b ∷ bs) ≡ None
-    by true e more =
-        let n : position_or_len (λ b. b == mark) (b ∷ bs) ≡ 0 = rw e refl in
-        absurd (omega (arith, h, n))
-    by false e more =
-        let m : ℕ = position_or_len (λ b. b == mark) bs in
-        let n : position_or_len (λ b. b == mark) (b ∷ bs) ≡ suc m = rw e (omega arith) in
-        let inner : m ≡ length bs = omega (arith, h, n) in
-        ap (λ k. cond k (Some ([], bs)) (option_map (in_front b) (around_first mark bs))) e
-        ∙ ap (option_map (in_front b)) (more inner)
-
-pub first_is : (mark : ℕ) (s : List ℕ) (r : Option (Bor (List ℕ) × Bor (List ℕ))) → IsSplitOnceResult mark s r → mark < 128 → option_map (λ x. (x.0.now, x.1.now)) r ≡ around_first mark s
-first_is mark s r h small = by r (split_once_first mark s r h small)
-  where
-    by : (r : Option (Bor (List ℕ) × Bor (List ℕ))) → MatchOption r (position_or_len (λ b. b == mark) s ≡ length s) (λ x. (position_or_len (λ b. b == mark) s < length s) × (x.0.now ≡ before_first (λ b. b == mark) s) × (x.1.now ≡ after_first (λ b. b == mark) s)) → option_map (λ x. (x.0.now, x.1.now)) r ≡ around_first mark s
-    by None g = sym (first_none mark s g)
-    by (Some x) g =
-        ap (λ q. Some (q, x.1.now)) g.1
-        ∙ ap (λ q. Some (before_first (λ b. b == mark) s, q)) g.2
-        ∙ sym (first_cut mark s g.0)
-
--- the last such character
-
-last_none : (mark : ℕ) (s : List ℕ) → ((k : ℕ) → k < length s → get_or s k 0 ≢ mark) → around_last mark s ≡ None
-last_none mark [] h = refl
-last_none mark (b ∷ bs) h =
-    ap (last_cut mark b bs) (last_none mark bs (λ k q. h (suc k) (omega (arith, q)))) ∙ by (b == mark) refl
-  where
-    by : (v : Bool) → (b == mark) ≡ v → last_cut mark b bs None ≡ None
-    by true e = absurd (h 0 (omega arith) (eqb-true b mark e))
-    by false e = rw e refl
-
-last_some : (mark i : ℕ) (s rest : List ℕ) → drop i s ≡ mark ∷ rest → around_last mark rest ≡ None → around_last mark s ≡ Some (take i s, rest)
-last_some mark zero s rest e none =
-    ap (around_last mark) e ∙ ap (last_cut mark mark rest) none ∙ ap (λ k. cond k (Some ([], rest)) None) (same_test mark)
-last_some mark (suc i) [] rest e none = absurd (cc)
-last_some mark (suc i) (b ∷ bs) rest e none = ap (last_cut mark b bs) (last_some mark i bs rest e none)
-
-pub last_is : (mark : ℕ) (s : List ℕ) (r : Option (Bor (List ℕ) × Bor (List ℕ))) → MatchOption r (RFindsChar mark s None) (λ x. (i : ℕ) × (j : ℕ) × RFindsChar mark s (Some (i, j)) × (x.0.now ≡ take i s) × (x.1.now ≡ drop j s) × (i ≤ j) × (length x.0.now ≡ i) × (length x.1.now + j ≡ length s)) → mark < 128 → option_map (λ x. (x.0.now, x.1.now)) r ≡ around_last mark s
-last_is mark s None h small = sym (last_none mark s (λ k q. NoCharPasses-char mark s k h small q))
-last_is mark s (Some x) h small =
-    let none : around_last mark (drop h.1 s) ≡ None = last_none mark (drop h.1 s) (λ k q. NoCharPasses-char mark (drop h.1 s) k h.2.0 small q) in
-    ap (λ q. Some (q, x.1.now)) h.3
-    ∙ ap (λ q. Some (take h.0 s, q)) h.4
-    ∙ sym (last_some mark h.0 s (drop h.1 s) (drop_at_char mark s h.0 h.1 h.2.1 small) none)
 
 -- the first `::`
 
@@ -96,22 +27,22 @@ not_here b bs h = by (eqb_tells b 58)
     by (inl g) = rw (g.0, second bs (λ r e. h r (ap (λ d. d ∷ bs) g.1 ∙ ap (λ q. 58 ∷ q) e))) refl
     by (inr g) = rw g.0 refl
 
-colons_step : (b : ℕ) (bs : List ℕ) → ((r : List ℕ) → b ∷ bs ≢ 58 ∷ (58 ∷ r)) → around_colons (b ∷ bs) ≡ option_map (in_front b) (around_colons bs)
+colons_step : (b : ℕ) (bs : List ℕ) → ((r : List ℕ) → b ∷ bs ≢ 58 ∷ (58 ∷ r)) → cut_colons (b ∷ bs) ≡ option_map (in_front b) (cut_colons bs)
 colons_step b bs h =
-    ap (λ k. cond k (Some ([], drop 1 bs)) (option_map (in_front b) (around_colons bs))) (not_here b bs h)
+    ap (λ k. cond k (Some ([], drop 1 bs)) (option_map (in_front b) (cut_colons bs))) (not_here b bs h)
 
-colons_none : (s : List ℕ) → ((k : ℕ) → k ≤ length s → (r : List ℕ) → drop k s ≢ 58 ∷ (58 ∷ r)) → around_colons s ≡ None
+colons_none : (s : List ℕ) → ((k : ℕ) → k ≤ length s → (r : List ℕ) → drop k s ≢ 58 ∷ (58 ∷ r)) → cut_colons s ≡ None
 colons_none [] h = refl
 colons_none (b ∷ bs) h =
     colons_step b bs (h 0 (omega arith)) ∙ ap (option_map (in_front b)) (colons_none bs (λ k q. h (suc k) (omega (arith, q))))
 
-colons_some : (i : ℕ) (s rest : List ℕ) → drop i s ≡ 58 ∷ (58 ∷ rest) → ((k : ℕ) → k < i → (r : List ℕ) → drop k s ≢ 58 ∷ (58 ∷ r)) → around_colons s ≡ Some (take i s, rest)
-colons_some zero s rest e h = ap around_colons e
+colons_some : (i : ℕ) (s rest : List ℕ) → drop i s ≡ 58 ∷ (58 ∷ rest) → ((k : ℕ) → k < i → (r : List ℕ) → drop k s ≢ 58 ∷ (58 ∷ r)) → cut_colons s ≡ Some (take i s, rest)
+colons_some zero s rest e h = ap cut_colons e
 colons_some (suc i) [] rest e h = absurd (cc)
 colons_some (suc i) (b ∷ bs) rest e h =
     colons_step b bs (h 0 (omega arith)) ∙ ap (option_map (in_front b)) (colons_some i bs rest e (λ k q. h (suc k) (omega (arith, q))))
 
-pub colons_are : (s : List ℕ) (r : Option (Bor (List ℕ) × Bor (List ℕ))) → MatchOption r (FindsText (58 ∷ (58 ∷ [])) s None) (λ x. (i : ℕ) × (j : ℕ) × FindsText (58 ∷ (58 ∷ [])) s (Some (i, j)) × (x.0.now ≡ take i s) × (x.1.now ≡ drop j s) × (i ≤ j) × (length x.0.now ≡ i) × (length x.1.now + j ≡ length s)) → option_map (λ x. (x.0.now, x.1.now)) r ≡ around_colons s
+pub colons_are : (s : List ℕ) (r : Option (Bor (List ℕ) × Bor (List ℕ))) → MatchOption r (FindsText (58 ∷ (58 ∷ [])) s None) (λ x. (i : ℕ) × (j : ℕ) × FindsText (58 ∷ (58 ∷ [])) s (Some (i, j)) × (x.0.now ≡ take i s) × (x.1.now ≡ drop j s) × (i ≤ j) × (length x.0.now ≡ i) × (length x.1.now + j ≡ length s)) → option_map (λ x. (x.0.now, x.1.now)) r ≡ cut_colons s
 colons_are s None h = sym (colons_none s h)
 colons_are s (Some x) h =
     ap (λ q. Some (q, x.1.now)) h.3

@@ -1,23 +1,48 @@
 -- A version clause that is `=v` does not stay as it is beside a build.
-use Rattle.std.proofs.Common.{◌≡◌, ◌==◌, ℕ, true≢false, ◌+◌, Bool, true, false, cond, length, List, [], ◌∷◌, ◌++◌, drop, refl, sym, ap, inl, inr, ◌∙◌, arith}
+use Rattle.conda_spec.specs.Parts.{NoneOf}
+use Rattle.std.proofs.Common.{◌≡◌, ◌==◌, ℕ, zero, suc, true≢false, ◌+◌, ◌-◌, Bool, true, false, cond, length, List, [], ◌∷◌, ◌++◌, take, drop, refl, sym, ap, inl, inr, ◌∙◌, arith}
+use Rattle.std.proofs.lemmas.Bool.{eq-eqb}
 use Rattle.std.proofs.lemmas.Bool.Decides.{nat_tests}
-use Rattle.std.specs.Prelude.{None, Some, ◌⊎◌, not, codes, Option, option_and_then, ◌||◌, is_none}
-use Rattle.std.specs.List.{cons_option, filter_map, list_all, onto_first}
+use Rattle.std.specs.Prelude.{None, Some, ◌⊎◌, nat_lt, not, codes, Option, option_and_then, ◌||◌, is_none}
+use Rattle.std.specs.List.{cons_option, filter_map, onto_first}
 use Rattle.std.specs.Option.{option_map}
 use Rattle.conda_version.specs.Grammar.{offence}
 use Rattle.conda_clause.specs.declared.error.SpecWhy.{SpecWhy}
+use Rattle.conda_clause.specs.declared.error.SpecWhy.TheVariants.{Paren}
 use Rattle.conda_clause.specs.declared.reading.Wanted.TheVariants.{Atom}
 use Rattle.conda_clause.specs.declared.test.Sign.TheVariants.{Single}
 use Rattle.conda_clause.specs.declared.test.Test.{Test}
 use Rattle.conda_clause.specs.declared.test.Test.TheVariants.{Any, Starts}
 use Rattle.conda_clause.specs.declared.token.Token.{Token}
 use Rattle.conda_clause.specs.declared.token.Token.TheVariants as token
-use Rattle.conda_clause.specs.Clause.{after, beside_build, clause_fault, fault_from, is_single, starred, step, unclosed}
+use Rattle.conda_clause.specs.declared.token.Token.TheVariants.{And, Close, Open, Or}
+use Rattle.conda_clause.specs.Clause.{after, beside_build, clause_fault, fault_from, is_single, lesser, starred, step, unclosed}
 use Rattle.conda_clause.specs.Pieces.{is_mark, pieces, token_of, tokens}
-use Rattle.conda_clause.specs.Tests.{ends_with, is_any, is_version_char, sign_len, sign_of, test_of, test_with, version_text, without_star}
-use Rattle.conda_clause.proofs.TestLemmas.{version_chars}
-use Rattle.conda_spec.proofs.PieceLemmas.{NoneOf}
-use Rattle.conda_spec.proofs.ClauseWords.{and_left, lesser_none, none_is, token_is_test}
+use Rattle.conda_base.specs.Texts.{ends_with}
+use Rattle.conda_clause.specs.Tests.{is_any, shortened, sign_len, sign_of, test_of, test_with, version_text, without_star}
+
+-- What a piece and a fault are.
+
+token_is_test : (b : ℕ) (bs : List ℕ) → is_mark b ≡ false → token_of (b ∷ bs) ≡ option_map token.Test (test_of (b ∷ bs))
+token_is_test b bs h =
+    let opens : (b == 40) ≡ false = grind (arith, nat_tests) in
+    let closes : (b == 41) ≡ false = grind (arith, nat_tests) in
+    let comma : (b == 44) ≡ false = grind (arith, nat_tests) in
+    let bar : (b == 124) ≡ false = grind (arith, nat_tests) in
+    let test : Option Token = option_map token.Test (test_of (b ∷ bs)) in
+    ap (λ k. cond k (Some Open) (cond (b == 41) (Some Close) (cond (b == 44) (Some And) (cond (b == 124) (Some Or) test)))) opens
+    ∙ ap (λ k. cond k (Some Close) (cond (b == 44) (Some And) (cond (b == 124) (Some Or) test))) closes
+    ∙ ap (λ k. cond k (Some And) (cond (b == 124) (Some Or) test)) comma
+    ∙ ap (λ k. cond k (Some Or) test) bar
+
+lesser_none : (a : Option ℕ) (b : Option (ℕ × SpecWhy)) → lesser a b ≡ None → b ≡ None
+lesser_none None b h = h
+lesser_none (Some at) None h = refl
+lesser_none (Some at) (Some found) h = by_lesser (nat_lt found.0 at) h
+  where
+    by_lesser : (k : Bool) → cond k (Some found) (Some (at, Paren)) ≡ None → Some found ≡ None
+    by_lesser true g = g
+    by_lesser false g = absurd (true≢false (sym (ap is_none g)))
 
 -- One test is one piece.
 
@@ -114,12 +139,32 @@ stood bs test free single e =
     ap (filter_map token_of) (one_piece 61 bs free) ∙ ap (λ t. cons_option t []) (token_is_test 61 bs refl ∙ ap (option_map token.Test) e) in
     ap (λ sign. cond (is_single sign) (starred text (tokens text)) text) single ∙ ap (starred text) all
 
-no_version_begins : (v bs : List ℕ) → offence v ≡ None → v ++ codes ".*" ≡ 61 ∷ bs → ⊥
+free_shortened : (p : ℕ → Bool) (text : List ℕ) (n : ℕ) → NoneOf p text → NoneOf p (take n text)
+free_shortened p text zero h = tt
+free_shortened p [] (suc n) h = tt
+free_shortened p (b ∷ bs) (suc n) h = (h.0, free_shortened p bs n h.1)
+
+free_star : (p : ℕ → Bool) (text : List ℕ) → NoneOf p text → NoneOf p (without_star text)
+free_star p text h = by (ends_with 42 text)
+  where
+    front : NoneOf p (shortened text)
+    front = free_shortened p text (length text - 1) h
+
+    by_dot : (k : Bool) → NoneOf p (cond k (shortened (shortened text)) (shortened text))
+    by_dot true = free_shortened p (shortened text) (length (shortened text) - 1) front
+    by_dot false = front
+
+    by : (k : Bool) → NoneOf p (cond k (cond (ends_with 46 (shortened text)) (shortened (shortened text)) (shortened text)) text)
+    by true = by_dot (ends_with 46 (shortened text))
+    by false = h
+
+equals_joint : (b : ℕ) → is_joint_or_equals b ≡ false → (b == 61) ≡ false
+equals_joint b h = grind (arith, nat_tests)
+
+no_version_begins : (v bs : List ℕ) → NoneOf is_joint_or_equals v → v ++ codes ".*" ≡ 61 ∷ bs → ⊥
 unfolding head_of
-no_version_begins [] bs h e = true≢false (sym (ap is_none h))
-no_version_begins (c ∷ cs) bs h e =
-    let char : is_version_char c ≡ true = and_left (is_version_char c) (list_all is_version_char cs) (version_chars (c ∷ cs) h) in
-    true≢false (sym char ∙ ap is_version_char (ap head_of e))
+no_version_begins [] bs h e = let same : 46 ≡ 61 = ap head_of e in absurd (omega (arith, same))
+no_version_begins (c ∷ cs) bs h e = true≢false (sym (eq-eqb c 61 (ap head_of e)) ∙ equals_joint c (h.0))
 
 star_moves : (bs : List ℕ) → codes "*" ≡ 61 ∷ bs → ⊥
 unfolding head_of
@@ -131,8 +176,8 @@ single_test bs single =
     ap (λ sign. cond (is_any sign (drop (sign_len sign) (61 ∷ bs))) (Some Any)
     (option_and_then (test_with sign (ends_with 42 (drop (sign_len sign) (61 ∷ bs)))) (version_text (without_star (drop (sign_len sign) (61 ∷ bs)))))) single
 
-moves : (bs : List ℕ) → AllFree (61 ∷ bs) → sign_of (61 ∷ bs) ≡ Single → fault_from Atom 0 0 (pieces (61 ∷ bs)) ≡ None → beside_build (61 ∷ bs) ≡ 61 ∷ bs → ⊥
-moves bs free single good fixed = by_any (is_any Single bs) refl
+moves : (bs : List ℕ) → NoneOf is_joint_or_equals bs → AllFree (61 ∷ bs) → sign_of (61 ∷ bs) ≡ Single → fault_from Atom 0 0 (pieces (61 ∷ bs)) ≡ None → beside_build (61 ∷ bs) ≡ 61 ∷ bs → ⊥
+moves bs plain free single good fixed = by_any (is_any Single bs) refl
   where
     v : List ℕ
     v = without_star bs
@@ -143,7 +188,7 @@ moves bs free single good fixed = by_any (is_any Single bs) refl
     by_version : (k : Bool) → is_none (offence (without_star bs)) ≡ k → test_of (61 ∷ bs) ≡ option_and_then (test_with Single (ends_with 42 bs)) (version_text (without_star bs)) → ⊥
     by_version true n e =
         let found : test_of (61 ∷ bs) ≡ Some (Starts (without_star bs)) = e ∙ ap (λ k. option_and_then (test_with Single (ends_with 42 bs)) (cond k (Some (without_star bs)) None)) n in
-        no_version_begins (without_star bs) bs (none_is (offence (without_star bs)) n) (sym (stood bs (Starts (without_star bs)) free single found) ∙ fixed)
+        no_version_begins (without_star bs) bs (free_star is_joint_or_equals bs plain) (sym (stood bs (Starts (without_star bs)) free single found) ∙ fixed)
     by_version false n e =
         let none : test_of (61 ∷ bs) ≡ None = e ∙ ap (λ k. option_and_then (test_with Single (ends_with 42 bs)) (cond k (Some (without_star bs)) None)) n in
         let fault : Option Token → Option (ℕ × SpecWhy) = λ t. after (step Atom 0 t) (λ next deep. fault_from next deep (0 + length (61 ∷ bs)) []) (λ why. Some (0, why)) in
@@ -161,4 +206,4 @@ moves bs free single good fixed = by_any (is_any Single bs) refl
 pub equal_moves : (bs : List ℕ) → NoneOf is_joint_or_equals bs → clause_fault (61 ∷ bs) ≡ None → beside_build (61 ∷ bs) ≡ 61 ∷ bs → ⊥
 equal_moves bs h good fixed =
     let read : fault_from Atom 0 0 (pieces (61 ∷ bs)) ≡ None = lesser_none (unclosed 0 (61 ∷ bs)) (fault_from Atom 0 0 (pieces (61 ∷ bs))) good in
-    moves bs (one_test_free bs h read) (single_sign bs h) read fixed
+    moves bs h (one_test_free bs h read) (single_sign bs h) read fixed

@@ -1,15 +1,18 @@
 -- Items in the brackets.
-use Rattle.std.proofs.Common.{◌≡◌, ◌≤◌, ◌<◌, ◌+◌, ◌-◌, ◌*◌, ◌&&◌, ℕ, Bool, true, false, cond, length, List, [], ◌∷◌, take, drop, get_or, refl, sym, ap, ◌∙◌, arith, true≢false, suc, Option, Some, None, Result, Ok, Err}
-use Rattle.std.specs.Char.{is_ascii_digit}
-use Rattle.std.specs.List.{fold, list_all, onto_first}
-use Rattle.std.proofs.Math.Dec.{ltb}
-use Rattle.std.proofs.lemmas.Bool.{eqb-true, lt-ltb, le-ltb}
+use Rattle.std.proofs.Common.{◌≡◌, ◌<◌, ◌+◌, ℕ, Bool, true, false, cond, length, List, [], ◌∷◌, take, drop, get_or, refl, sym, ap, ◌∙◌, arith, true≢false, suc, Option, Some, None, IfSome, Result, Ok, Err}
+use Rattle.std.specs.List.{onto_first}
+use Rattle.std.proofs.lemmas.Bool.{eqb-true}
 use Rattle.conda_clause.specs.declared.error.SpecErr.{SpecErr}
 use Rattle.conda_clause.specs.declared.error.SpecErr.TheVariants.{BadSpec, Memory}
-use Rattle.conda_version.specs.Grammar.{is_number, number_of}
 use Rattle.conda_spec.specs.declared.given.Given.{Given}
-use Rattle.conda_spec.specs.Faults.{Fails, Gives, ◌>>=◌}
-use Rattle.conda_spec.specs.Reading.{ends_item, item_end, item_read, items_of, items_read, quote_behind, short_number}
+use Rattle.conda_base.specs.Reads.{Gives, ◌>>=◌}
+use Rattle.conda_clause.specs.Faults.{spec_fault_of}
+use Rattle.conda_spec.specs.Reading.{SpecRead}
+use Rattle.conda_spec.specs.Reading.{ends_item, item_end, item_read, items_of, items_read, quote_behind}
+
+-- a refusal names its fault
+abbrev pub Fails : {A : Type 0} → SpecErr → SpecRead A → Type 0
+Fails e read = IfSome (spec_fault_of e) (λ fault. read ≡ Err fault)
 
 -- where the first item ends
 
@@ -32,7 +35,7 @@ pub record Ends (at : ℕ) (quote : Option ℕ) (s : List ℕ) (end : ℕ) : Typ
   pub comma : get_or s len 0 ≡ 44
   pub items : items_of quote s ≡ take len s ∷ items_of None (drop (len + 1) s)
 
-comma_of : (quote : Option ℕ) (b : ℕ) → ends_item quote b ≡ true → b ≡ 44
+pub comma_of : (quote : Option ℕ) (b : ℕ) → ends_item quote b ≡ true → b ≡ 44
 comma_of None b h = eqb-true b 44 h
 comma_of (Some q) b h = absurd (true≢false (sym h))
 
@@ -78,36 +81,7 @@ pub items_next : (given next : Given) (at : ℕ) (item : List ℕ) (items : List
 unfolding items_read
 items_next given next at item items h = ap (λ r. r >>= λ next. items_read next (at + length item + 1) items) h
 
-pub items_last : (r : Result Given SpecErr) (given : Given) (at : ℕ) (item : List ℕ) → Gives r (item_read given at item) → Gives r (items_read given at (item ∷ []))
+pub items_last : (r : Result Given SpecErr) (given : Given) (at : ℕ) (item : List ℕ) → Gives spec_fault_of r (item_read given at item) → Gives spec_fault_of r (items_read given at (item ∷ []))
 unfolding items_read
 items_last (Ok x) given at item h = ap (λ r. r >>= λ next. items_read next (at + length item + 1) []) h
 items_last (Err e) given at item h = items_fail e given at item [] h
-
--- numbers below 2 ^ 64
-
-step_of : ℕ → ℕ → ℕ
-step_of n d = n * 10 + (d - 48)
-
-pub grows : (n : ℕ) (ds : List ℕ) → n ≤ fold (λ n d. n * 10 + (d - 48)) n ds
-grows n [] = omega arith
-grows n (d ∷ ds) = let more = grows (n * 10 + (d - 48)) ds in omega (arith, more)
-
-and_false : (b : Bool) → b && false ≡ false
-and_false true = refl
-and_false false = refl
-
-pub too_great : (n : ℕ) (ds s : List ℕ) → 18446744073709551616 ≤ n → fold (λ n d. n * 10 + (d - 48)) n ds ≡ number_of s → short_number s ≡ None
-too_great n ds s h e =
-    let great : ltb (number_of s) 18446744073709551616 ≡ false = le-ltb (number_of s) 18446744073709551616 (omega (arith, h, grows n ds, e)) in
-    ap (λ v. cond (is_number s && v) (Some (number_of s)) None) great
-    ∙ ap (λ v. cond v (Some (number_of s)) None) (and_false (is_number s))
-
-pub no_number : (s : List ℕ) → list_all is_ascii_digit s ≡ false → short_number s ≡ None
-no_number s h =
-    ap (λ v. cond ((ltb 0 (length s) && v) && ltb (number_of s) 18446744073709551616) (Some (number_of s)) None) h
-    ∙ ap (λ v. cond (v && ltb (number_of s) 18446744073709551616) (Some (number_of s)) None) (and_false (ltb 0 (length s)))
-
-pub a_number : (n : ℕ) (s : List ℕ) → 0 < length s → list_all is_ascii_digit s ≡ true → n < 18446744073709551616 → n ≡ number_of s → short_number s ≡ Some n
-a_number n s some digits small e =
-    let short : ltb (number_of s) 18446744073709551616 ≡ true = lt-ltb (number_of s) 18446744073709551616 (omega (arith, small, e)) in
-    rw (digits, short, lt-ltb 0 (length s) some, e) refl

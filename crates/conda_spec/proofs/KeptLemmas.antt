@@ -1,9 +1,10 @@
 -- Lemmas on what is kept of a text of one or two words.
+use Rattle.conda_spec.specs.Parts.{NoneOf}
 use Rattle.std.proofs.Common.{◌≡◌, ◌==◌, ℕ, ◌+◌, ◌-◌, Bool, true, false, cond, length, List, [], ◌∷◌, ◌++◌, map, refl, ap, ◌∙◌, append-nil}
 use Rattle.std.proofs.lemmas.List.{map-append}
 use Rattle.std.specs.Prelude.{None, Some, ◌||◌, not, Option}
 use Rattle.conda_clause.specs.Kept.{drops_behind, has_gap, is_joint, kept, kept_runs, last_of, marks_at}
-use Rattle.conda_spec.proofs.PieceLemmas.{NoneOf, first_part, one_part}
+use Rattle.conda_spec.proofs.PieceLemmas.{first_part, one_part}
 
 -- a space
 abbrev pub is_space : ℕ → Bool

@@ -4,10 +4,12 @@ pub mod PieceLemmas
 pub mod KeptLemmas
 pub mod TrimLemmas
 pub mod SeamLemmas
-pub mod FrontLemmas
 pub mod BracketLemmas
 pub mod NameLemmas
 pub mod ItemLemmas
-pub mod ClauseWords
 pub mod EqualLemmas
 pub mod LawLemmas
+pub mod LowerLaws
+pub mod OnlyLemmas
+pub mod GivesLemmas
+pub mod WordLemmas

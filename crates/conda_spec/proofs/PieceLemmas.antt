@@ -1,12 +1,9 @@
 -- Lemmas on texts that are put together from pieces, and on the places where these are taken apart again.
 use Rattle.std.proofs.Common.{◌≡◌, ℕ, suc, subst, ◌+◌, Bool, true, false, length, List, [], ◌∷◌, ◌++◌, take, drop, reverse, refl, sym, ap, ◌∙◌, arith}
 use Rattle.std.proofs.lemmas.List.{reverse-append}
+use Rattle.conda_spec.specs.Parts.{NoneOf}
 use Rattle.std.proofs.Math.Seq.{take-append_seam}
 use Rattle.std.specs.List.{AllByRecursion, onto_first, prefix_len, position_or_len, before_first, after_first, slice_split}
-
--- no character of the text is of this kind
-abbrev pub NoneOf : (ℕ → Bool) → List ℕ → Type 0
-NoneOf bars text = AllByRecursion (λ b. bars b ≡ false) text
 
 -- each character of the text is of this kind
 abbrev pub AllOf : (ℕ → Bool) → List ℕ → Type 0

@@ -1,8 +1,9 @@
 -- Lemmas on texts that have no spaces at their ends.
+use Rattle.conda_spec.specs.Parts.{NoneOf}
 use Rattle.std.proofs.Common.{◌≡◌, ◌≢◌, ℕ, subst, false, cond, List, [], ◌∷◌, ◌++◌, reverse, refl, sym, ap, ◌∙◌}
 use Rattle.std.proofs.lemmas.List.{reverse-reverse, reverse-append}
 use Rattle.conda_version.specs.Text.{without_front, trimmed}
-use Rattle.conda_spec.proofs.PieceLemmas.{NoneOf, none_reversed}
+use Rattle.conda_spec.proofs.PieceLemmas.{none_reversed}
 use Rattle.conda_spec.proofs.KeptLemmas.{is_space}
 
 -- no space stands in front

@@ -2,6 +2,6 @@ pub mod Parts
 pub mod Match
 pub mod Text
 pub mod Cuts
-pub mod Faults
 pub mod Reading
 pub mod Good
+pub mod Grammar

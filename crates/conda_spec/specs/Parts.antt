@@ -30,17 +30,21 @@ bars_channel b = is_one_of (codes " '\",[]:/") b
 abbrev pub bars_build : ℕ → Bool
 bars_build b = is_one_of (codes " '\",|:[]") b
 
+-- no character of the text is of this kind
+abbrev pub NoneOf : (ℕ → Bool) → List ℕ → Type 0
+NoneOf bars text = AllByRecursion (λ b. bars b ≡ false) text
+
 -- not empty, and of none of these characters
-abbrev pub IsFreeOf : (ℕ → Bool) → List ℕ → Type 0
-IsFreeOf bars text = (text ≢ []) × AllByRecursion (λ b. bars b ≡ false) text
+abbrev pub IsFreeWord : (ℕ → Bool) → List ℕ → Type 0
+IsFreeWord bars text = (text ≢ []) × NoneOf bars text
 
 -- Parts that a text can give. A version is in lower case. Where a build is given, a version is given too, and in the form that it has beside a build.
 pub record IsSpec (parts : Parts) : Type 0 where
-  pub channel : IfSome parts.channel (IsFreeOf bars_channel)
-  pub subdir : IfSome parts.subdir (IsFreeOf bars_channel)
+  pub channel : IfSome parts.channel (IsFreeWord bars_channel)
+  pub subdir : IfSome parts.subdir (IsFreeWord bars_channel)
   pub name : (parts.name ≢ []) × AllByRecursion (λ b. is_name_char b ≡ true) parts.name
   pub version : IfSome parts.version (λ clause. (clause_fault clause ≡ None) × (map to_ascii_lowercase clause ≡ clause))
-  pub build : IfSome parts.build (IsFreeOf bars_build)
+  pub build : IfSome parts.build (IsFreeWord bars_build)
   pub together : IsSome parts.build → IfSome parts.version (λ clause. beside_build clause ≡ clause) × IsSome parts.version
   pub number : IfSome parts.number (λ n. n < 18446744073709551616)
 

@@ -4,8 +4,8 @@ use Rattle.std.specs.Option.{option_map, option_and_then, option_or}
 use Rattle.std.specs.Char.{to_ascii_lowercase}
 use Rattle.std.specs.Cmp.Lexicographic.{pointwise}
 use Rattle.std.specs.List.{list_any, onto_first, position_or_len, before_first}
-use Rattle.conda_version.specs.Grammar.{is_number, number_of}
-use Rattle.conda_version.specs.Text.{holds}
+use Rattle.conda_base.specs.Numbers.{digits_below}
+use Rattle.conda_clause.specs.declared.error.SpecWhy.{SpecWhy}
 use Rattle.conda_clause.specs.declared.error.SpecWhy.TheVariants.{Key, Channel, Name, Words, Build}
 use Rattle.conda_clause.specs.Clause.{beside_build, clause_fault}
 use Rattle.conda_clause.specs.Faults.{place_of}
@@ -13,9 +13,15 @@ use Rattle.conda_clause.specs.Kept.{is_joint, kept}
 use Rattle.conda_spec.specs.declared.given.Given.{Given}
 use Rattle.conda_spec.specs.declared.given.ItemKey.{ItemKey}
 use Rattle.conda_spec.specs.declared.given.ItemKey.TheVariants as keys
-use Rattle.conda_spec.specs.Cuts.{begins_with, around_colons, around_first, around_last, without_last}
-use Rattle.conda_spec.specs.Faults.{Read, ◌>>=◌, unless}
+use Rattle.conda_base.specs.Signs.{close_bracket, comma, double_quote, equals, open_bracket, quote, slash, space, star}
+use Rattle.conda_base.specs.Texts.{begins_with, cut_first, cut_last, ends_with, is_byte}
+use Rattle.conda_spec.specs.Cuts.{cut_colons, without_last}
+use Rattle.conda_base.specs.Reads.{Read, ◌>>=◌, unless}
 use Rattle.conda_spec.specs.Parts.{Parts, bars_build, bars_channel, is_name_char, is_one_of}
+
+-- a value, or where a fault is and what is wrong there
+abbrev pub SpecRead : Type 0 → Type 0
+SpecRead A = Read A (ℕ × SpecWhy)
 
 -- Channels, builds and version clauses, each at a place.
 
@@ -24,64 +30,65 @@ abbrev pub is_free : (ℕ → Bool) → List ℕ → Bool
 is_free bars text = nat_lt 0 (length text) && not (list_any bars text)
 
 -- a channel or a subdir
-unfoldable pub channel_at : ℕ → List ℕ → Read (List ℕ)
+unfoldable pub channel_at : ℕ → List ℕ → SpecRead (List ℕ)
 channel_at at text = if is_free bars_channel text then Ok text else Err (at, Channel)
 
-unfoldable pub build_at : ℕ → List ℕ → Read (List ℕ)
+unfoldable pub build_at : ℕ → List ℕ → SpecRead (List ℕ)
 build_at at text = if is_free bars_build text then Ok text else Err (at, Build)
 
 -- A version clause of characters that stay, which each stood at a place: the first at that for which the start stands. Some of
 -- those in front are added, and stand where the first written one does.
-unfoldable pub clause_at : (ℕ → ℕ) → ℕ → ℕ → List ℕ → Read (List ℕ)
+unfoldable pub clause_at : (ℕ → ℕ) → ℕ → ℕ → List ℕ → SpecRead (List ℕ)
 clause_at place start added text =
-    unless (clause_fault (map to_ascii_lowercase text)) (λ i. place (start + (i - added))) (map to_ascii_lowercase text)
+    unless (option_map (λ fault. (place (start + (fault.0 - added)), fault.1)) (clause_fault (map to_ascii_lowercase text))) (map to_ascii_lowercase text)
 
-abbrev pub ends_with_star : List ℕ → Bool
-ends_with_star text = is_some (without_last 42 text)
+-- "equal to V", where V stands between two `=`: V itself where it ends with a star, else `==V`
+abbrev pub equal_to : List ℕ → List ℕ
+equal_to v = if ends_with star v then v else codes "==" ++ v
 
--- "equal to V", where V stands between two `=`: V itself where it ends with a star, else `==V`, of which the signs are added
-unfoldable pub equal_at : (ℕ → ℕ) → ℕ → List ℕ → Read (List ℕ)
-equal_at place start v = if ends_with_star v then clause_at place start 0 v else clause_at place start 2 (codes "==" ++ v)
+-- the same at a place, where the signs of `==V` are added
+unfoldable pub equal_at : (ℕ → ℕ) → ℕ → List ℕ → SpecRead (List ℕ)
+equal_at place start v = if ends_with star v then clause_at place start 0 v else clause_at place start 2 (codes "==" ++ v)
 
 -- What follows a name. Places are those of the characters that stay.
 
 -- a version clause and a build
-abbrev pub Wanted : Type 0
-Wanted = Option (List ℕ) × Option (List ℕ)
+abbrev pub VersionAndBuild : Type 0
+VersionAndBuild = Option (List ℕ) × Option (List ℕ)
 
 -- a build, behind which no further word stands
-abbrev pub last_word : ℕ → (ℕ → ℕ) → List ℕ → Option (List ℕ × List ℕ) → Read (List ℕ)
+abbrev pub last_word : ℕ → (ℕ → ℕ) → List ℕ → Option (List ℕ × List ℕ) → SpecRead (List ℕ)
 last_word start place text None = build_at (place start) text
 last_word start place text (Some cut) = build_at (place start) cut.0 >>= λ build. Err (place (start + length cut.0 + 1), Words)
 
-unfoldable pub build_word : (ℕ → ℕ) → ℕ → List ℕ → Read (List ℕ)
-build_word place start text = last_word start place text (around_first 32 text)
+unfoldable pub build_word : (ℕ → ℕ) → ℕ → List ℕ → SpecRead (List ℕ)
+build_word place start text = last_word start place text (cut_first space text)
 
 -- a version clause, and a build as a second word
-abbrev pub words_cut : (ℕ → ℕ) → List ℕ → Option (List ℕ × List ℕ) → Read Wanted
+abbrev pub words_cut : (ℕ → ℕ) → List ℕ → Option (List ℕ × List ℕ) → SpecRead VersionAndBuild
 words_cut place text None = clause_at place 0 0 text >>= λ clause. Ok (Some clause, None)
 words_cut place text (Some cut) = do
   clause ← clause_at place 0 0 cut.0
   build ← build_word place (length cut.0 + 1) cut.1
   Ok (Some clause, Some build)
 
-unfoldable pub words_read : (ℕ → ℕ) → List ℕ → Read Wanted
-words_read place text = words_cut place text (around_first 32 text)
+unfoldable pub words_read : (ℕ → ℕ) → List ℕ → SpecRead VersionAndBuild
+words_read place text = words_cut place text (cut_first space text)
 
 -- one of the characters that a version between or behind signs `=` doesn't hold
 abbrev pub is_sign : ℕ → Bool
 is_sign b = is_one_of (codes ",|<>!~(") b
 
 abbrev pub is_sign_or_equals : ℕ → Bool
-is_sign_or_equals b = b == 61 || is_sign b
+is_sign_or_equals b = b == equals || is_sign b
 
 -- `=v`, where v holds no `=` and no other sign
 abbrev pub is_equal_word : List ℕ → Bool
 is_equal_word [] = false
-is_equal_word (b ∷ bs) = b == 61 && not (list_any is_sign_or_equals bs)
+is_equal_word (b ∷ bs) = b == equals && not (list_any is_sign_or_equals bs)
 
 -- What a space parts from the name: words, of which the first two are `=v=B` where they are `=v` and B.
-abbrev pub spaced_cut : (ℕ → ℕ) → List ℕ → Option (List ℕ × List ℕ) → Read Wanted
+abbrev pub spaced_cut : (ℕ → ℕ) → List ℕ → Option (List ℕ × List ℕ) → SpecRead VersionAndBuild
 spaced_cut place text None = words_read place text
 spaced_cut place text (Some cut) =
     if is_equal_word cut.0 then
@@ -90,12 +97,12 @@ spaced_cut place text (Some cut) =
     Ok (Some clause, Some build))
     else words_read place text
 
-unfoldable pub spaced_read : (ℕ → ℕ) → List ℕ → Read Wanted
-spaced_read place text = spaced_cut place text (around_first 32 text)
+unfoldable pub spaced_read : (ℕ → ℕ) → List ℕ → SpecRead VersionAndBuild
+spaced_read place text = spaced_cut place text (cut_first space text)
 
 -- how many `=` a word that begins with `=` begins with, two at most
 abbrev pub lead_of : List ℕ → ℕ
-lead_of word = if begins_with 61 (drop 1 word) then 2 else 1
+lead_of word = if begins_with equals (drop 1 word) then 2 else 1
 
 -- the version of such a word: it ends at the next `=`
 abbrev pub before_equals : Option (List ℕ × List ℕ) → List ℕ → List ℕ
@@ -103,46 +110,46 @@ before_equals None text = text
 before_equals (Some cut) text = cut.0
 
 abbrev pub version_of : List ℕ → List ℕ
-version_of word = before_equals (around_first 61 (drop (lead_of word) word)) (drop (lead_of word) word)
+version_of word = before_equals (cut_first equals (drop (lead_of word) word)) (drop (lead_of word) word)
 
 -- `=V`, `==V`, `=V=B` or `==V=B`
-abbrev pub joined_cut : (ℕ → ℕ) → List ℕ → ℕ → Option (List ℕ × List ℕ) → Read Wanted
+abbrev pub joined_cut : (ℕ → ℕ) → List ℕ → ℕ → Option (List ℕ × List ℕ) → SpecRead VersionAndBuild
 joined_cut place word lead None = clause_at place 0 0 word >>= λ clause. Ok (Some clause, None)
 joined_cut place word lead (Some cut) = do
   clause ← if lead == 1 then equal_at place 1 cut.0 else clause_at place 0 0 (codes "==" ++ cut.0)
   build ← build_at (place (lead + length cut.0 + 1)) cut.1
   Ok (Some clause, Some build)
 
-unfoldable pub joined_read : (ℕ → ℕ) → List ℕ → Read Wanted
-joined_read place word = joined_cut place word (lead_of word) (around_first 61 (drop (lead_of word) word))
+unfoldable pub joined_read : (ℕ → ℕ) → List ℕ → SpecRead VersionAndBuild
+joined_read place word = joined_cut place word (lead_of word) (cut_first equals (drop (lead_of word) word))
 
 -- What begins with `=` directly behind the name: one such word, or words of a version clause that goes on behind its first test.
-abbrev pub equals_cut : (ℕ → ℕ) → List ℕ → Option (List ℕ × List ℕ) → Read Wanted
+abbrev pub equals_cut : (ℕ → ℕ) → List ℕ → Option (List ℕ × List ℕ) → SpecRead VersionAndBuild
 equals_cut place text None = if list_any is_sign (version_of text) then words_read place text else joined_read place text
 equals_cut place text (Some cut) =
     if list_any is_sign (version_of cut.0) then words_read place text
     else (joined_read place cut.0 >>= λ wanted. Err (place (length cut.0 + 1), Words))
 
-unfoldable pub equals_read : (ℕ → ℕ) → List ℕ → Read Wanted
-equals_read place text = equals_cut place text (around_first 32 text)
+unfoldable pub equals_read : (ℕ → ℕ) → List ℕ → SpecRead VersionAndBuild
+equals_read place text = equals_cut place text (cut_first space text)
 
 -- a sign with which a version clause begins directly behind the name
 abbrev pub is_comparison : ℕ → Bool
 is_comparison b = is_one_of (codes "<>!~") b
 
 -- The characters that stay, and whether a space parts them from the name. A space before `,` or `|` doesn't.
-unfoldable pub wanted_read : (ℕ → ℕ) → Bool → List ℕ → Read Wanted
+unfoldable pub wanted_read : (ℕ → ℕ) → Bool → List ℕ → SpecRead VersionAndBuild
 wanted_read place spaced [] = Ok (None, None)
 wanted_read place spaced (b ∷ bs) =
     if is_joint b then Err (place 0, Words)
     else if spaced then spaced_read place (b ∷ bs)
-    else if b == 61 then equals_read place (b ∷ bs)
+    else if b == equals then equals_read place (b ∷ bs)
     else if is_comparison b then words_read place (b ∷ bs)
     else Err (place 0, Words)
 
 -- what follows a name, from a place on
-unfoldable pub followed_read : ℕ → List ℕ → Read Wanted
-followed_read at text = wanted_read (λ i. at + place_of text i) (begins_with 32 text) (kept text)
+unfoldable pub followed_read : ℕ → List ℕ → SpecRead VersionAndBuild
+followed_read at text = wanted_read (λ i. at + place_of text i) (begins_with space text) (kept text)
 
 -- What stands before the brackets.
 
@@ -158,11 +165,11 @@ nothing = record { channel = None; subdir = None; version = None; build = None; 
 abbrev pub Front : Type 0
 Front = List ℕ × Given
 
-abbrev pub with_wanted : Given → Wanted → Given
+abbrev pub with_wanted : Given → VersionAndBuild → Given
 with_wanted given wanted = record given { version = wanted.0; build = wanted.1 }
 
 -- a name and what follows it, from a place on
-unfoldable pub named_read : Given → ℕ → List ℕ → Read Front
+unfoldable pub named_read : Given → ℕ → List ℕ → SpecRead Front
 named_read given at text =
     if position_or_len ends_name text == 0 then Err (at, Name)
     else
@@ -170,48 +177,48 @@ named_read given at text =
     Ok (map to_ascii_lowercase (before_first ends_name text), with_wanted given wanted))
 
 -- a channel, or a channel and a subdir round the first `/`
-abbrev pub channel_cut : List ℕ → Option (List ℕ × List ℕ) → Read Given
+abbrev pub channel_cut : List ℕ → Option (List ℕ × List ℕ) → SpecRead Given
 channel_cut text None = channel_at 0 text >>= λ channel. Ok (record nothing { channel = Some channel })
 channel_cut text (Some cut) = do
   channel ← channel_at 0 cut.0
   subdir ← channel_at 0 cut.1
   Ok (record nothing { channel = Some channel; subdir = Some subdir })
 
-unfoldable pub channel_read : List ℕ → Read Given
-channel_read text = channel_cut text (around_first 47 text)
+unfoldable pub channel_read : List ℕ → SpecRead Given
+channel_read text = channel_cut text (cut_first slash text)
 
-abbrev pub front_cut : List ℕ → Option (List ℕ × List ℕ) → Read Front
+abbrev pub front_cut : List ℕ → Option (List ℕ × List ℕ) → SpecRead Front
 front_cut text None = named_read nothing 0 text
 front_cut text (Some cut) = channel_read cut.0 >>= λ given. named_read given (length cut.0 + 2) cut.1
 
-unfoldable pub front_read : List ℕ → Read Front
-front_read text = front_cut text (around_colons text)
+unfoldable pub front_read : List ℕ → SpecRead Front
+front_read text = front_cut text (cut_colons text)
 
 -- The items in the brackets.
 
 -- a quote
 abbrev pub is_quote : ℕ → Bool
-is_quote b = b == 39 || b == 34
+is_quote b = b == quote || b == double_quote
 
 -- the quote in which the next character stands, if it does
 abbrev pub quote_behind : Option ℕ → ℕ → Option ℕ
 quote_behind None b = if is_quote b then Some b else None
-quote_behind (Some quote) b = if b == quote then None else Some quote
+quote_behind (Some mark) b = if b == mark then None else Some mark
 
 -- `,` in no quotes
 abbrev pub ends_item : Option ℕ → ℕ → Bool
-ends_item None b = b == 44
-ends_item (Some quote) b = false
+ends_item None b = b == comma
+ends_item (Some mark) b = false
 
 -- the place of the first `,` in no quotes, counted on from a place
 abbrev pub item_end : ℕ → Option ℕ → List ℕ → Option ℕ
-item_end at quote [] = None
-item_end at quote (b ∷ bs) = if ends_item quote b then Some at else item_end (at + 1) (quote_behind quote b) bs
+item_end at mark [] = None
+item_end at mark (b ∷ bs) = if ends_item mark b then Some at else item_end (at + 1) (quote_behind mark b) bs
 
 -- the items: the pieces at each `,` that stands in no quotes
 abbrev pub items_of : Option ℕ → List ℕ → List (List ℕ)
-items_of quote [] = [] ∷ []
-items_of quote (b ∷ bs) = if ends_item quote b then [] ∷ items_of None bs else onto_first b (items_of (quote_behind quote b) bs)
+items_of mark [] = [] ∷ []
+items_of mark (b ∷ bs) = if ends_item mark b then [] ∷ items_of None bs else onto_first b (items_of (quote_behind mark b) bs)
 
 abbrev pub key_of : List ℕ → Option ItemKey
 key_of text =
@@ -224,15 +231,15 @@ key_of text =
 
 -- no value without quotes holds it
 abbrev pub bars_bare : ℕ → Bool
-bars_bare b = is_quote b || b == 93
+bars_bare b = is_quote b || b == comma || b == close_bracket
 
--- a text that holds no such quote
+-- a text that holds no such mark
 abbrev pub without_quote : ℕ → List ℕ → Option (List ℕ)
-without_quote quote text = if holds quote text then None else Some text
+without_quote mark text = if list_any (is_byte mark) text then None else Some text
 
 -- what stands in quotes, of which the first stands before the text
 abbrev pub quoted : ℕ → List ℕ → Option (List ℕ)
-quoted quote text = option_and_then (without_quote quote) (without_last quote text)
+quoted mark text = option_and_then (without_quote mark) (without_last mark text)
 
 -- A value as it is written from a place on: it and its place. It is bare, or stands in quotes and holds none of these.
 abbrev pub value_of : ℕ → List ℕ → Option (ℕ × List ℕ)
@@ -250,41 +257,38 @@ has_key given keys.BuildNumber = is_some given.number
 has_key given keys.Channel = is_some given.channel
 has_key given keys.Subdir = is_some given.subdir
 
--- decimal digits of a number below 2 ^ 64
-abbrev pub short_number : List ℕ → Option ℕ
-short_number text = if is_number text && nat_lt (number_of text) 18446744073709551616 then Some (number_of text) else None
-
-abbrev pub number_or : ℕ → Option ℕ → Read ℕ
+-- a number that is wanted
+abbrev pub number_or : ℕ → Option ℕ → SpecRead ℕ
 number_or at None = Err (at, Key)
 number_or at (Some n) = Ok n
 
 -- a version clause in the brackets, of which spaces are dropped as of one before them
-unfoldable pub clause_value : ℕ → List ℕ → Read (List ℕ)
+unfoldable pub clause_value : ℕ → List ℕ → SpecRead (List ℕ)
 clause_value at text = clause_at (λ i. at + place_of text i) 0 0 (kept text)
 
 -- the value of an item that begins at the first place, which itself stands at the other
-unfoldable pub put : Given → ItemKey → ℕ → ℕ × List ℕ → Read Given
+unfoldable pub put : Given → ItemKey → ℕ → ℕ × List ℕ → SpecRead Given
 put given keys.Version at value = clause_value value.0 value.1 >>= λ x. Ok (record given { version = Some x })
 put given keys.Build at value = build_at value.0 value.1 >>= λ x. Ok (record given { build = Some x })
-put given keys.BuildNumber at value = number_or at (short_number value.1) >>= λ x. Ok (record given { number = Some x })
+put given keys.BuildNumber at value = number_or at (digits_below 18446744073709551616 value.1) >>= λ x. Ok (record given { number = Some x })
 put given keys.Channel at value = channel_at value.0 value.1 >>= λ x. Ok (record given { channel = Some x })
 put given keys.Subdir at value = channel_at value.0 value.1 >>= λ x. Ok (record given { subdir = Some x })
 
-abbrev pub item_key : Given → ℕ → Option ItemKey → Option (ℕ × List ℕ) → Read Given
+abbrev pub item_key : Given → ℕ → Option ItemKey → Option (ℕ × List ℕ) → SpecRead Given
 item_key given at None value = Err (at, Key)
 item_key given at (Some key) None = Err (at, Key)
 item_key given at (Some key) (Some value) = if has_key given key then Err (at, Key) else put given key at value
 
-abbrev pub item_cut : Given → ℕ → Option (List ℕ × List ℕ) → Read Given
+abbrev pub item_cut : Given → ℕ → Option (List ℕ × List ℕ) → SpecRead Given
 item_cut given at None = Err (at, Key)
 item_cut given at (Some cut) = item_key given at (key_of cut.0) (value_of (at + length cut.0 + 1) cut.1)
 
 -- an item, `key=value`, behind what is given before
-unfoldable pub item_read : Given → ℕ → List ℕ → Read Given
-item_read given at item = item_cut given at (around_first 61 item)
+unfoldable pub item_read : Given → ℕ → List ℕ → SpecRead Given
+item_read given at item = item_cut given at (cut_first equals item)
 
 -- items of which the first begins at a place
-unfoldable pub items_read : Given → ℕ → List (List ℕ) → Read Given
+unfoldable pub items_read : Given → ℕ → List (List ℕ) → SpecRead Given
 items_read given at [] = Ok given
 items_read given at (item ∷ items) = item_read given at item >>= λ next. items_read next (at + length item + 1) items
 
@@ -292,7 +296,7 @@ items_read given at (item ∷ items) = item_read given at item >>= λ next. item
 
 -- what stands before the brackets, and what stands in them: they begin at the last `[` of a text that ends with `]`
 abbrev pub brackets_of : List ℕ → Option (List ℕ × List ℕ)
-brackets_of text = option_and_then (around_last 91) (without_last 93 text)
+brackets_of text = option_and_then (cut_last open_bracket) (without_last close_bracket text)
 
 -- where a build is given, a version is too, in the form that it has beside a build
 abbrev pub version_beside : Option (List ℕ) → Option (List ℕ) → Option (List ℕ)
@@ -312,7 +316,7 @@ parts_of front given =
       number = given.number;
     }
 
-abbrev pub spec_cut : List ℕ → Option (List ℕ × List ℕ) → Read Parts
+abbrev pub spec_cut : List ℕ → Option (List ℕ × List ℕ) → SpecRead Parts
 spec_cut text None = front_read text >>= λ front. Ok (parts_of front nothing)
 spec_cut text (Some cut) = do
   front ← front_read cut.0
@@ -320,5 +324,5 @@ spec_cut text (Some cut) = do
   Ok (parts_of front given)
 
 -- what a specification without spaces at its ends says
-unfoldable pub spec_read : List ℕ → Read Parts
+unfoldable pub spec_read : List ℕ → SpecRead Parts
 spec_read text = spec_cut text (brackets_of text)

@@ -1,28 +1,11 @@
 ghost use Rattle.std.specs.Prelude.{◌≡◌, ◌<◌, ◌+◌, ◌==◌, IfSome, IsTrue, length, drop, true};
 ghost use Rattle.std.specs.Option.{option_map};
-ghost use Rattle.conda_spec.specs.Cuts.{begins_with, around_colons, around_first, around_last, without_last};
-
-/// What stands before the first such ASCII character, and behind it.
-pub fn around_first(text: &str, mark: char) -> Option<(&str, &str)>
-    requires { mark < 128 }
-    ensures cut { option_map (λ x. (x.0.now, x.1.now)) result ≡ around_first mark text.now }
-    ensures len { IfSome result (λ x. length x.0.now + length x.1.now + 1 ≡ length text.now) }
-{
-    text.split_once(mark)
-}
-
-/// What stands before the last such ASCII character, and behind it.
-pub fn around_last(text: &str, mark: char) -> Option<(&str, &str)>
-    requires { mark < 128 }
-    ensures cut { option_map (λ x. (x.0.now, x.1.now)) result ≡ around_last mark text.now }
-    ensures len { IfSome result (λ x. length x.0.now + length x.1.now + 1 ≡ length text.now) }
-{
-    text.rsplit_once(mark)
-}
+ghost use Rattle.conda_base.specs.Texts.{begins_with};
+ghost use Rattle.conda_spec.specs.Cuts.{cut_colons, without_last};
 
 /// What stands before the first `::`, and behind it.
-pub fn around_colons(text: &str) -> Option<(&str, &str)>
-    ensures cut { option_map (λ x. (x.0.now, x.1.now)) result ≡ around_colons text.now }
+pub fn cut_colons(text: &str) -> Option<(&str, &str)>
+    ensures cut { option_map (λ x. (x.0.now, x.1.now)) result ≡ cut_colons text.now }
     ensures len { IfSome result (λ x. length x.0.now + length x.1.now + 2 ≡ length text.now) }
 {
     text.split_once("::")

@@ -1,31 +1,32 @@
 ghost use Rattle.std.specs.Prelude.{◌≡◌, ◌==◌, ◌+◌, ◌++◌, ◌<◌, if◌then◌else◌, IfOk, None, codes, drop, length, true};
 ghost use Rattle.std.specs.List.{list_any};
 ghost use Rattle.conda_clause.specs.Kept as kept;
-ghost use Rattle.conda_spec.specs.Cuts.{around_first, begins_with};
-ghost use Rattle.conda_spec.specs.Faults.{Gives};
-ghost use Rattle.conda_spec.specs.Good.{IsClause, IsWanted, stood};
-ghost use Rattle.conda_spec.specs.Parts.{IsFreeOf, bars_build};
+ghost use Rattle.conda_base.specs.Texts.{begins_with, cut_first};
+ghost use Rattle.conda_base.specs.Reads.{Gives};
+ghost use Rattle.conda_clause.specs.Faults.{spec_fault_of};
+ghost use Rattle.conda_spec.specs.Good.{IsGoodClause, IsVersionAndBuild, stood};
+ghost use Rattle.conda_spec.specs.Parts.{IsFreeWord, bars_build};
 ghost use Rattle.conda_spec.specs.Reading.{build_word, clause_at, equal_at, equals_read, followed_read, is_comparison, is_equal_word, is_sign, is_sign_or_equals, joined_read, lead_of, spaced_read, version_of, wanted_read, words_read};
 
-use crate::cuts::{around_first, begins_with, behind};
+use crate::cuts::{begins_with, behind};
 use crate::places::Places;
 use crate::stay::stay;
 use crate::values::{build_at, clause_at, equal_at, fault, is_one_of};
-use conda_base::Text;
+use conda_base::{Text, cut_first};
 use conda_clause::{SpecErr, SpecWhy, VersionClause};
 use std::alloc::Global;
 
 /// A version clause and a build, where they are given.
-pub type Wanted = (Option<VersionClause>, Option<Text>);
+pub type VersionAndBuild = (Option<VersionClause>, Option<Text>);
 
 // A build, behind which no further word stands.
 #[tactic(auto, unfolding(crate::specs::Reading::build_word))]
 fn build_word(alloc: Global, places: &Places, start: usize, text: &str) -> Result<Text, SpecErr>
     requires { start + length text.now < 18446744073709551616 }
-    ensures read { Gives result (build_word (stood places.now) start text.now) }
-    ensures good { IfOk result (IsFreeOf bars_build) }
+    ensures read { Gives spec_fault_of result (build_word (stood places.now) start text.now) }
+    ensures good { IfOk result (IsFreeWord bars_build) }
 {
-    match around_first(text, ' ') {
+    match cut_first(text, b' ') {
         None => build_at(alloc, places.of(start), text),
         Some((build, _)) => {
             let _build = build_at(alloc, places.of(start), build)?;
@@ -36,11 +37,11 @@ fn build_word(alloc: Global, places: &Places, start: usize, text: &str) -> Resul
 
 // A version clause, and a build as a second word.
 #[tactic(auto, unfolding(crate::specs::Reading::words_read))]
-fn words(alloc: Global, places: &Places, text: &str) -> Result<Wanted, SpecErr>
-    ensures read { Gives result (words_read (stood places.now) text.now) }
-    ensures good { IfOk result IsWanted }
+fn words(alloc: Global, places: &Places, text: &str) -> Result<VersionAndBuild, SpecErr>
+    ensures read { Gives spec_fault_of result (words_read (stood places.now) text.now) }
+    ensures good { IfOk result IsVersionAndBuild }
 {
-    match around_first(text, ' ') {
+    match cut_first(text, b' ') {
         None => Ok((Some(clause_at(alloc, places, 0, 0, text)?), None)),
         Some((first, rest)) => {
             let clause = clause_at(alloc, places, 0, 0, first)?;
@@ -92,11 +93,11 @@ fn is_equal_word(text: &[u8]) -> bool
 
 // What a space parts from the name.
 #[tactic(auto, unfolding(crate::specs::Reading::spaced_read))]
-fn spaced(alloc: Global, places: &Places, text: &str) -> Result<Wanted, SpecErr>
-    ensures read { Gives result (spaced_read (stood places.now) text.now) }
-    ensures good { IfOk result IsWanted }
+fn spaced(alloc: Global, places: &Places, text: &str) -> Result<VersionAndBuild, SpecErr>
+    ensures read { Gives spec_fault_of result (spaced_read (stood places.now) text.now) }
+    ensures good { IfOk result IsVersionAndBuild }
 {
-    match around_first(text, ' ') {
+    match cut_first(text, b' ') {
         None => words(alloc, places, text),
         Some((first, rest)) => {
             if is_equal_word(first.as_bytes()) {
@@ -131,7 +132,7 @@ fn version_of(word: &str) -> &str
     ensures { result.now ≡ version_of word.now }
 {
     let (_, rest) = behind_lead(word);
-    match around_first(rest, '=') {
+    match cut_first(rest, b'=') {
         None => rest,
         Some((version, _)) => version,
     }
@@ -144,8 +145,8 @@ fn joined_clause(
     lead: usize,
     version: &str,
 ) -> Result<VersionClause, SpecErr>
-    ensures read { Gives result (if lead == 1 then equal_at (stood places.now) 1 version.now else clause_at (stood places.now) 0 0 (codes "==" ++ version.now)) }
-    ensures good { IfOk result IsClause }
+    ensures read { Gives spec_fault_of result (if lead == 1 then equal_at (stood places.now) 1 version.now else clause_at (stood places.now) 0 0 (codes "==" ++ version.now)) }
+    ensures good { IfOk result IsGoodClause }
 {
     if lead == 1 {
         equal_at(alloc, places, 1, version)
@@ -157,13 +158,13 @@ fn joined_clause(
 
 // `=V`, `==V`, `=V=B` or `==V=B`.
 #[tactic(auto, unfolding(crate::specs::Reading::joined_read))]
-fn joined(alloc: Global, places: &Places, word: &str) -> Result<Wanted, SpecErr>
+fn joined(alloc: Global, places: &Places, word: &str) -> Result<VersionAndBuild, SpecErr>
     requires { begins_with 61 word.now ≡ true }
-    ensures read { Gives result (joined_read (stood places.now) word.now) }
-    ensures good { IfOk result IsWanted }
+    ensures read { Gives spec_fault_of result (joined_read (stood places.now) word.now) }
+    ensures good { IfOk result IsVersionAndBuild }
 {
     let (lead, rest) = behind_lead(word);
-    match around_first(rest, '=') {
+    match cut_first(rest, b'=') {
         None => Ok((Some(clause_at(alloc, places, 0, 0, word)?), None)),
         Some((version, build)) => {
             let clause = joined_clause(alloc, places, lead, version)?;
@@ -175,12 +176,12 @@ fn joined(alloc: Global, places: &Places, word: &str) -> Result<Wanted, SpecErr>
 
 // What begins with `=` directly behind the name.
 #[tactic(auto, unfolding(crate::specs::Reading::equals_read))]
-fn equals(alloc: Global, places: &Places, text: &str) -> Result<Wanted, SpecErr>
+fn equals(alloc: Global, places: &Places, text: &str) -> Result<VersionAndBuild, SpecErr>
     requires { begins_with 61 text.now ≡ true }
-    ensures read { Gives result (equals_read (stood places.now) text.now) }
-    ensures good { IfOk result IsWanted }
+    ensures read { Gives spec_fault_of result (equals_read (stood places.now) text.now) }
+    ensures good { IfOk result IsVersionAndBuild }
 {
-    match around_first(text, ' ') {
+    match cut_first(text, b' ') {
         None => {
             if holds_sign(version_of(text).as_bytes()) {
                 words(alloc, places, text)
@@ -201,9 +202,14 @@ fn equals(alloc: Global, places: &Places, text: &str) -> Result<Wanted, SpecErr>
 
 // The characters that stay of what follows a name.
 #[tactic(auto, unfolding(crate::specs::Reading::wanted_read))]
-fn wanted(alloc: Global, places: &Places, spaced_off: bool, text: &str) -> Result<Wanted, SpecErr>
-    ensures read { Gives result (wanted_read (stood places.now) spaced_off text.now) }
-    ensures good { IfOk result IsWanted }
+fn wanted(
+    alloc: Global,
+    places: &Places,
+    spaced_off: bool,
+    text: &str,
+) -> Result<VersionAndBuild, SpecErr>
+    ensures read { Gives spec_fault_of result (wanted_read (stood places.now) spaced_off text.now) }
+    ensures good { IfOk result IsVersionAndBuild }
 {
     match text.as_bytes() {
         [] => Ok((None, None)),
@@ -225,10 +231,10 @@ fn wanted(alloc: Global, places: &Places, spaced_off: bool, text: &str) -> Resul
 
 /// What follows a name, from a place on.
 #[tactic(auto, unfolding(crate::specs::Reading::followed_read))]
-pub fn followed(alloc: Global, at: usize, text: &str) -> Result<Wanted, SpecErr>
+pub fn followed(alloc: Global, at: usize, text: &str) -> Result<VersionAndBuild, SpecErr>
     requires { at + length text.now < 18446744073709551616 }
-    ensures read { Gives result (followed_read at text.now) }
-    ensures good { IfOk result IsWanted }
+    ensures read { Gives spec_fault_of result (followed_read at text.now) }
+    ensures good { IfOk result IsVersionAndBuild }
 {
     let stayed = stay(alloc, at, text)?;
     wanted(

@@ -2,7 +2,7 @@ ghost use Rattle.std.specs.Prelude.{◌≡◌};
 ghost use Rattle.conda_spec.specs.Good.{IsGiven};
 ghost use Rattle.conda_spec.specs.Reading as reading;
 
-use crate::follow::Wanted;
+use crate::follow::VersionAndBuild;
 use conda_base::Text;
 use conda_clause::VersionClause;
 
@@ -41,7 +41,7 @@ pub fn nothing() -> Given
 }
 
 /// The same with what follows the name.
-pub fn with_wanted(given: Given, wanted: Wanted) -> Given
+pub fn with_wanted(given: Given, wanted: VersionAndBuild) -> Given
     ensures { result ≡ reading.with_wanted given wanted }
 {
     let (version, build) = wanted;

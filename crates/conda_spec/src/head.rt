@@ -1,16 +1,17 @@
 ghost use Rattle.std.specs.Prelude.{◌≡◌, ◌+◌, ◌<◌, ◌≤◌, IfOk, drop, length, map};
 ghost use Rattle.std.specs.Char.{to_ascii_lowercase};
 ghost use Rattle.std.specs.List.{before_first, position_or_len};
-ghost use Rattle.conda_spec.specs.Faults.{Gives};
+ghost use Rattle.conda_base.specs.Reads.{Gives};
+ghost use Rattle.conda_clause.specs.Faults.{spec_fault_of};
 ghost use Rattle.conda_spec.specs.Good.{IsFront, IsGiven};
 ghost use Rattle.conda_spec.specs.Parts.{is_name_char};
 ghost use Rattle.conda_spec.specs.Reading.{channel_read, ends_name, front_read, named_read};
 
-use crate::cuts::{around_colons, around_first};
+use crate::cuts::cut_colons;
 use crate::follow::followed;
 use crate::given::{Given, nothing, with_wanted};
 use crate::values::{channel_at, fault, is_one_of};
-use conda_base::Text;
+use conda_base::{Text, cut_first};
 use conda_clause::{SpecErr, SpecWhy};
 use std::alloc::{AllocError, Global};
 
@@ -62,7 +63,7 @@ fn lowered(alloc: Global, text: &str) -> Result<Text, AllocError>
 fn named(alloc: Global, given: Given, at: usize, text: &str) -> Result<Front, SpecErr>
     requires room { at + length text.now < 18446744073709551616 }
     requires good { IsGiven given }
-    ensures read { Gives result (named_read given at text.now) }
+    ensures read { Gives spec_fault_of result (named_read given at text.now) }
     ensures good { IfOk result IsFront }
 {
     let (name, rest) = name_cut(text);
@@ -77,11 +78,11 @@ fn named(alloc: Global, given: Given, at: usize, text: &str) -> Result<Front, Sp
 // A channel, or a channel and a subdir round the first `/`.
 #[tactic(auto, unfolding(crate::specs::Reading::channel_read))]
 fn channel(alloc: Global, text: &str) -> Result<Given, SpecErr>
-    ensures read { Gives result (channel_read text.now) }
+    ensures read { Gives spec_fault_of result (channel_read text.now) }
     ensures good { IfOk result IsGiven }
 {
     let mut given = nothing();
-    match around_first(text, '/') {
+    match cut_first(text, b'/') {
         None => {
             given.channel = Some(channel_at(alloc, 0, text)?);
             Ok(given)
@@ -97,10 +98,10 @@ fn channel(alloc: Global, text: &str) -> Result<Given, SpecErr>
 /// What stands before the brackets.
 #[tactic(auto, unfolding(crate::specs::Reading::front_read))]
 pub fn front(alloc: Global, text: &str) -> Result<Front, SpecErr>
-    ensures read { Gives result (front_read text.now) }
+    ensures read { Gives spec_fault_of result (front_read text.now) }
     ensures good { IfOk result IsFront }
 {
-    match around_colons(text) {
+    match cut_colons(text) {
         None => named(alloc, nothing(), 0, text),
         Some((before, rest)) => {
             let given = channel(alloc, before)?;

@@ -1,16 +1,19 @@
 ghost use Rattle.std.specs.Prelude.{◌≡◌, ◌==◌, ◌+◌, ◌<◌, [], ◌∷◌, IfOk, IfSome, MatchOption, None, length, slice_index};
 ghost use Rattle.std.specs.List.{list_any};
 ghost use Rattle.std.specs.Option.{option_map};
-ghost use Rattle.conda_version.specs.Text.{holds};
-ghost use Rattle.conda_spec.specs.Faults.{Gives};
-ghost use Rattle.conda_spec.specs.Good.{IsClause, IsGiven};
+ghost use Rattle.conda_base.specs.Texts.{is_byte};
+ghost use Rattle.conda_base.specs.Numbers.{digits_below};
+ghost use Rattle.conda_base.specs.Reads.{Gives};
+ghost use Rattle.conda_clause.specs.Faults.{spec_fault_of};
+ghost use Rattle.conda_spec.specs.Good.{IsGoodClause, IsGiven};
 ghost use Rattle.conda_spec.specs.Reading as reading;
-ghost use Rattle.conda_spec.specs.Reading.{bars_bare, clause_value, has_key, is_quote, item_end, item_read, items_of, items_read, key_of, number_or, put, quote_behind, short_number, value_of};
+ghost use Rattle.conda_spec.specs.Reading.{bars_bare, clause_value, has_key, is_quote, item_end, item_read, items_of, items_read, key_of, number_or, put, quote_behind, value_of};
 
-use crate::cuts::{around_first, behind, without_last};
+use crate::cuts::{behind, without_last};
 use crate::given::{Given, ItemKey, nothing};
 use crate::stay::stay;
 use crate::values::{build_at, channel_at, clause_at, fault};
+use conda_base::{cut_first, digits_u64};
 use conda_clause::{SpecErr, SpecWhy, VersionClause};
 use std::alloc::Global;
 
@@ -79,7 +82,7 @@ fn key_of(text: &str) -> Option<ItemKey>
 }
 
 fn holds(b: u8, text: &[u8]) -> bool
-    ensures { result ≡ holds b text.now }
+    ensures { result ≡ list_any (is_byte b) text.now }
 {
     text.contains(&b)
 }
@@ -87,7 +90,8 @@ fn holds(b: u8, text: &[u8]) -> bool
 fn holds_barred(text: &[u8]) -> bool
     ensures { result ≡ list_any bars_bare text.now }
 {
-    text.iter().any(|b| is_quote(*b) || *b == b']')
+    text.iter()
+        .any(|b| is_quote(*b) || *b == b',' || *b == b']')
 }
 
 // A value in quotes, of which the first is known.
@@ -137,41 +141,20 @@ fn has_key(given: &Given, key: ItemKey) -> bool
     }
 }
 
-// The number of decimal digits, where it is below 2 ^ 64.
-fn short_number(text: &[u8]) -> Option<u64>
-    ensures { result ≡ short_number text.now }
-{
-    if text.is_empty() {
-        return None;
-    }
-    let mut n: u64 = 0;
-    for b in text {
-        if !b.is_ascii_digit() {
-            return None;
-        }
-        let next = u128::from(n) * 10 + u128::from(*b - b'0');
-        if u128::from(u64::MAX) < next {
-            return None;
-        }
-        n = next as u64;
-    }
-    Some(n)
-}
-
 #[tactic(auto, unfolding(crate::specs::Reading::clause_value))]
 fn clause_value(alloc: Global, at: usize, text: &str) -> Result<VersionClause, SpecErr>
     requires { at + length text.now < 18446744073709551616 }
-    ensures read { Gives result (clause_value at text.now) }
-    ensures good { IfOk result IsClause }
+    ensures read { Gives spec_fault_of result (clause_value at text.now) }
+    ensures good { IfOk result IsGoodClause }
 {
     let stayed = stay(alloc, at, text)?;
     clause_at(alloc, &stayed.places, 0, 0, stayed.text.as_str())
 }
 
 fn number_at(at: usize, text: &str) -> Result<u64, SpecErr>
-    ensures { Gives result (number_or at (short_number text.now)) }
+    ensures { Gives spec_fault_of result (number_or at (digits_below 18446744073709551616 text.now)) }
 {
-    match short_number(text.as_bytes()) {
+    match digits_u64(text.as_bytes()) {
         Some(n) => Ok(n),
         None => Err(fault(at, SpecWhy::Key)),
     }
@@ -189,7 +172,7 @@ fn put(
 ) -> Result<Given, SpecErr>
     requires room { place + length text.now < 18446744073709551616 }
     requires good { IsGiven given }
-    ensures read { Gives result (put given key at (place, text.now)) }
+    ensures read { Gives spec_fault_of result (put given key at (place, text.now)) }
     ensures good { IfOk result IsGiven }
 {
     let mut given = given;
@@ -208,10 +191,10 @@ fn put(
 fn item(alloc: Global, given: Given, at: usize, text: &str) -> Result<Given, SpecErr>
     requires room { at + length text.now < 18446744073709551616 }
     requires good { IsGiven given }
-    ensures read { Gives result (item_read given at text.now) }
+    ensures read { Gives spec_fault_of result (item_read given at text.now) }
     ensures good { IfOk result IsGiven }
 {
-    let Some((key, value)) = around_first(text, '=') else {
+    let Some((key, value)) = cut_first(text, b'=') else {
         return Err(fault(at, SpecWhy::Key));
     };
     let Some((place, value)) = value_of(at + key.len() + 1, value) else {
@@ -231,7 +214,7 @@ fn item(alloc: Global, given: Given, at: usize, text: &str) -> Result<Given, Spe
 /// The items in the brackets, of which the first begins at a place.
 pub fn items(alloc: Global, start: usize, text: &str) -> Result<Given, SpecErr>
     requires { start + length text.now < 18446744073709551616 }
-    ensures read { Gives result (items_read reading.nothing start (items_of None text.now)) }
+    ensures read { Gives spec_fault_of result (items_read reading.nothing start (items_of None text.now)) }
     ensures good { IfOk result IsGiven }
 {
     let mut given = nothing();

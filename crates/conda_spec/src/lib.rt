@@ -16,10 +16,5 @@ mod text;
 mod values;
 
 pub use conda_clause::{SpecErr, SpecWhy, VersionClause, glob};
-pub use laws::normal_form_law;
+pub use laws::{grammar_laws, normal_form_law};
 pub use spec::Spec;
-
-#[cfg(test)]
-mod form_tests;
-#[cfg(test)]
-mod tests;

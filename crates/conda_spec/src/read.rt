@@ -1,26 +1,26 @@
-ghost use Rattle.std.specs.Prelude.{◌≡◌, ◌+◌, IfOk, IfSome, IsSome, None, length};
-ghost use Rattle.std.specs.Option.{option_map};
+ghost use Rattle.std.specs.Prelude.{◌≡◌, ◌+◌, IfOk, IfSome, IsSome, MatchOption, None, Some, length};
 ghost use Rattle.conda_clause.specs.Clause.{beside_build};
-ghost use Rattle.conda_spec.specs.Faults.{Gives};
-ghost use Rattle.conda_spec.specs.Good.{IsClause, IsFront, IsGiven};
+ghost use Rattle.conda_base.specs.Reads.{Gives};
+ghost use Rattle.conda_clause.specs.Faults.{spec_fault_of};
+ghost use Rattle.conda_spec.specs.Good.{IsGoodClause, IsFront, IsGiven};
 ghost use Rattle.conda_spec.specs.Parts.{IsSpec};
 ghost use Rattle.conda_spec.specs.Reading.{brackets_of, parts_of, spec_read, version_beside};
 
-use crate::cuts::{around_last, without_last};
+use crate::cuts::without_last;
 use crate::given::{Given, nothing};
 use crate::head::{Front, front};
 use crate::items::items;
 use crate::spec::Spec;
-use conda_base::Text;
+use conda_base::{Text, cut_last};
 use conda_clause::{SpecErr, VersionClause};
 use std::alloc::{AllocError, Global};
 
 // What stands before the brackets, and what stands in them.
 fn brackets_of(text: &str) -> Option<(&str, &str)>
-    ensures cut { option_map (λ x. (x.0.now, x.1.now)) result ≡ brackets_of text.now }
+    ensures cut { MatchOption result (brackets_of text.now ≡ None) (λ x. brackets_of text.now ≡ Some (x.0.now, x.1.now)) }
     ensures len { IfSome result (λ x. length x.0.now + length x.1.now + 2 ≡ length text.now) }
 {
-    around_last(without_last(text, ']')?, '[')
+    cut_last(without_last(text, ']')?, b'[')
 }
 
 // Where a build is given, a version is too, in the form that it has beside a build.
@@ -29,9 +29,9 @@ fn version_beside(
     build: &Option<Text>,
     version: Option<VersionClause>,
 ) -> Result<Option<VersionClause>, AllocError>
-    requires { IfSome version IsClause }
+    requires { IfSome version IsGoodClause }
     ensures value { IfOk result (λ v. v ≡ version_beside build.now version) }
-    ensures good { IfOk result (λ v. IfSome v IsClause) }
+    ensures good { IfOk result (λ v. IfSome v IsGoodClause) }
     ensures together { IfOk result (λ v. IsSome build.now → IfSome v (λ clause. beside_build clause ≡ clause) × IsSome v) }
 {
     match (build, version) {
@@ -71,7 +71,7 @@ fn spec_of(alloc: Global, front: Front, given: Given) -> Result<Spec, AllocError
 /// Reads a specification without spaces at its ends.
 #[tactic(auto, unfolding(crate::specs::Reading::spec_read))]
 pub fn read(alloc: Global, text: &str) -> Result<Spec, SpecErr>
-    ensures read { Gives result (spec_read text.now) }
+    ensures read { Gives spec_fault_of result (spec_read text.now) }
     ensures good { IfOk result IsSpec }
 {
     match brackets_of(text) {

@@ -1,6 +1,10 @@
 ghost use Rattle.std.specs.Prelude.{◌≡◌, IfOk};
-ghost use Rattle.conda_version.specs.Text.{holds, trimmed};
-ghost use Rattle.conda_spec.specs.Faults.{Gives};
+ghost use Rattle.std.specs.List.{list_any};
+ghost use Rattle.conda_base.specs.Signs.{star};
+ghost use Rattle.conda_base.specs.Texts.{is_byte};
+ghost use Rattle.conda_version.specs.Text.{trimmed};
+ghost use Rattle.conda_base.specs.Reads.{Gives};
+ghost use Rattle.conda_clause.specs.Faults.{spec_fault_of};
 ghost use Rattle.conda_spec.specs.Parts.{IsSpec};
 ghost use Rattle.conda_spec.specs.Reading.{spec_read};
 
@@ -12,7 +16,7 @@ use std::alloc::Global;
 use std::marker::Model;
 
 /// A match specification. Contracts see it as its parts.
-#[derive(Debug, Drop)]
+#[derive(Clone, Debug, Drop)]
 pub struct Spec {
     pub(crate) channel: Option<Text>,
     pub(crate) subdir: Option<Text>,
@@ -31,6 +35,8 @@ impl Model for Spec {
 
     ghost view = { λ s. record { channel = s.channel; subdir = s.subdir; name = s.name; version = s.version; build = s.build; number = s.number } };
 
+    ghost inverse = { λ p. record { channel = p.channel; subdir = p.subdir; name = p.name; version = p.version; build = p.build; number = p.number } };
+
     ghost invariant = { λ s. IsSpec (record { channel = s.channel; subdir = s.subdir; name = s.name; version = s.version; build = s.build; number = s.number }) };
 }
 
@@ -40,7 +46,7 @@ impl Spec {
     /// Fails with the first fault from left to right, with its place in the text without the spaces at its ends, and where
     /// memory runs out.
     pub fn read(alloc: Global, text: &str) -> Result<Spec, SpecErr>
-        ensures read { Gives result (spec_read (trimmed text.now)) }
+        ensures read { Gives spec_fault_of result (spec_read (trimmed text.now)) }
         ensures good { IfOk result IsSpec }
     {
         read(alloc, trimmed(text))
@@ -48,7 +54,7 @@ impl Spec {
 
     /// Whether the name holds a star, which stands for any characters.
     pub fn has_glob(&self) -> bool
-        ensures { result ≡ holds 42 self.now.name }
+        ensures { result ≡ list_any (is_byte star) self.now.name }
     {
         self.name.as_str().as_bytes().contains(&b'*')
     }

@@ -5,6 +5,7 @@ ghost use Rattle.conda_spec.specs.Parts.{IsSpec};
 ghost use Rattle.conda_spec.specs.Reading.{spec_read};
 ghost use Rattle.conda_spec.specs.Text.{brackets_text, channel_text, spec_text, word_text};
 
+use crate::laws::normal_form_law;
 use crate::spec::Spec;
 use conda_base::{Copied, Text};
 use conda_clause::{SpecErr, VersionClause};
@@ -18,8 +19,8 @@ impl Spec {
         ensures again { IfOk result (λ t. spec_read (trimmed (string_bytes t)) ≡ Ok self.now) }
         ensures bad { IfErr result (λ e. e ≡ Memory) }
     {
-        let text = self.normal_form(alloc)?;
-        Ok(text)
+        normal_form_law();
+        Ok(self.normal_form(alloc)?)
     }
 
     fn normal_form(&self, alloc: Global) -> Result<String, AllocError>
@@ -37,51 +38,11 @@ impl Spec {
         let brackets = brackets.as_str();
         format!(in alloc; "{channel}{name}{version}{build}{brackets}")
     }
-
-    /// An equal specification.
-    pub fn copy(&self, alloc: Global) -> Result<Spec, AllocError>
-        ensures { IfOk result (λ s. s ≡ self.now) }
-    {
-        let channel = copied_text(alloc, &self.channel)?;
-        let subdir = copied_text(alloc, &self.subdir)?;
-        let name = self.name.copy(alloc)?;
-        let version = copied_version(alloc, &self.version)?;
-        let build = copied_text(alloc, &self.build)?;
-        Ok(Spec {
-            channel,
-            subdir,
-            name,
-            version,
-            build,
-            number: self.number,
-        })
-    }
 }
 
 impl Copied for Spec {
-    fn copied(&self, alloc: Global) -> Result<Spec, AllocError> {
-        self.copy(alloc)
-    }
-}
-
-fn copied_text(alloc: Global, part: &Option<Text>) -> Result<Option<Text>, AllocError>
-    ensures { IfOk result (λ p. p ≡ part.now) }
-{
-    match part {
-        Some(text) => Ok(Some(text.copy(alloc)?)),
-        None => Ok(None),
-    }
-}
-
-fn copied_version(
-    alloc: Global,
-    part: &Option<VersionClause>,
-) -> Result<Option<VersionClause>, AllocError>
-    ensures { IfOk result (λ p. p ≡ part.now) }
-{
-    match part {
-        Some(clause) => Ok(Some(clause.copy(alloc)?)),
-        None => Ok(None),
+    fn copy(&self) -> Result<Spec, AllocError> {
+        self.clone()
     }
 }
 

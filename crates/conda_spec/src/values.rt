@@ -1,11 +1,13 @@
 ghost use Rattle.std.specs.Prelude.{◌≡◌, ◌==◌, ◌++◌, ◌<◌, IfOk, codes, nat_lt, string_bytes, true};
 ghost use Rattle.std.specs.List.{list_any};
-ghost use Rattle.conda_spec.specs.Faults.{Gives};
-ghost use Rattle.conda_spec.specs.Good.{IsClause, stood};
-ghost use Rattle.conda_spec.specs.Parts.{IsFreeOf, bars_build, bars_channel, is_one_of};
-ghost use Rattle.conda_spec.specs.Reading.{build_at, channel_at, clause_at, ends_with_star, equal_at, is_free};
+ghost use Rattle.conda_base.specs.Signs.{star};
+ghost use Rattle.conda_base.specs.Texts.{ends_with};
+ghost use Rattle.conda_base.specs.Reads.{Gives};
+ghost use Rattle.conda_clause.specs.Faults.{spec_fault_of};
+ghost use Rattle.conda_spec.specs.Good.{IsGoodClause, stood};
+ghost use Rattle.conda_spec.specs.Parts.{IsFreeWord, bars_build, bars_channel, is_one_of};
+ghost use Rattle.conda_spec.specs.Reading.{build_at, channel_at, clause_at, equal_at, is_free};
 
-use crate::cuts::without_last;
 use crate::places::Places;
 use conda_base::Text;
 use conda_clause::{SpecErr, SpecWhy, VersionClause};
@@ -24,51 +26,28 @@ pub fn fault(at: usize, why: SpecWhy) -> SpecErr
     SpecErr::BadSpec { at, why }
 }
 
-fn bars_channel(b: u8) -> bool
-    ensures { result ≡ bars_channel b }
+// Whether a text holds one of these.
+fn holds_one_of(signs: &[u8], text: &[u8]) -> bool
+    ensures { result ≡ list_any (is_one_of signs.now) text.now }
 {
-    is_one_of(b" '\",[]:/", b)
+    text.iter().any(|b| is_one_of(signs, *b))
 }
 
-fn bars_build(b: u8) -> bool
-    ensures { result ≡ bars_build b }
+// Not empty, and of none of these.
+fn is_free(barred: &[u8], text: &[u8]) -> bool
+    ensures value { result ≡ is_free (is_one_of barred.now) text.now }
+    ensures good { result ≡ true → IsFreeWord (is_one_of barred.now) text.now }
 {
-    is_one_of(b" '\",|:[]", b)
-}
-
-fn holds_barred_by_channel(text: &[u8]) -> bool
-    ensures { result ≡ list_any bars_channel text.now }
-{
-    text.iter().any(|b| bars_channel(*b))
-}
-
-fn is_channel(text: &[u8]) -> bool
-    ensures value { result ≡ is_free bars_channel text.now }
-    ensures good { result ≡ true → IsFreeOf bars_channel text.now }
-{
-    0 < text.len() && !holds_barred_by_channel(text)
-}
-
-fn holds_barred_by_build(text: &[u8]) -> bool
-    ensures { result ≡ list_any bars_build text.now }
-{
-    text.iter().any(|b| bars_build(*b))
-}
-
-fn is_build(text: &[u8]) -> bool
-    ensures value { result ≡ is_free bars_build text.now }
-    ensures good { result ≡ true → IsFreeOf bars_build text.now }
-{
-    0 < text.len() && !holds_barred_by_build(text)
+    0 < text.len() && !holds_one_of(barred, text)
 }
 
 /// A channel or a subdir.
 #[tactic(auto, unfolding(crate::specs::Reading::channel_at))]
 pub fn channel_at(alloc: Global, at: usize, text: &str) -> Result<Text, SpecErr>
-    ensures read { Gives result (channel_at at text.now) }
-    ensures good { IfOk result (IsFreeOf bars_channel) }
+    ensures read { Gives spec_fault_of result (channel_at at text.now) }
+    ensures good { IfOk result (IsFreeWord bars_channel) }
 {
-    if !is_channel(text.as_bytes()) {
+    if !is_free(b" '\",[]:/", text.as_bytes()) {
         return Err(fault(at, SpecWhy::Channel));
     }
     Ok(Text::from_str(alloc, text)?)
@@ -76,10 +55,10 @@ pub fn channel_at(alloc: Global, at: usize, text: &str) -> Result<Text, SpecErr>
 
 #[tactic(auto, unfolding(crate::specs::Reading::build_at))]
 pub fn build_at(alloc: Global, at: usize, text: &str) -> Result<Text, SpecErr>
-    ensures read { Gives result (build_at at text.now) }
-    ensures good { IfOk result (IsFreeOf bars_build) }
+    ensures read { Gives spec_fault_of result (build_at at text.now) }
+    ensures good { IfOk result (IsFreeWord bars_build) }
 {
-    if !is_build(text.as_bytes()) {
+    if !is_free(b" '\",|:[]", text.as_bytes()) {
         return Err(fault(at, SpecWhy::Build));
     }
     Ok(Text::from_str(alloc, text)?)
@@ -94,8 +73,8 @@ pub fn clause_at(
     added: usize,
     text: &str,
 ) -> Result<VersionClause, SpecErr>
-    ensures read { Gives result (clause_at (stood places.now) start added text.now) }
-    ensures good { IfOk result IsClause }
+    ensures read { Gives spec_fault_of result (clause_at (stood places.now) start added text.now) }
+    ensures good { IfOk result IsGoodClause }
 {
     match VersionClause::of_kept(alloc, text) {
         Ok(clause) => Ok(clause),
@@ -108,9 +87,12 @@ pub fn clause_at(
 }
 
 fn ends_with_star(text: &str) -> bool
-    ensures { result ≡ ends_with_star text.now }
+    ensures { result ≡ ends_with star text.now }
 {
-    without_last(text, '*').is_some()
+    match text.as_bytes().last() {
+        Some(b) => *b == b'*',
+        None => false,
+    }
 }
 
 /// "Equal to V": V itself where it ends with a star, else `==V`.
@@ -121,8 +103,8 @@ pub fn equal_at(
     start: usize,
     version: &str,
 ) -> Result<VersionClause, SpecErr>
-    ensures read { Gives result (equal_at (stood places.now) start version.now) }
-    ensures good { IfOk result IsClause }
+    ensures read { Gives spec_fault_of result (equal_at (stood places.now) start version.now) }
+    ensures good { IfOk result IsGoodClause }
 {
     if ends_with_star(version) {
         return clause_at(alloc, places, start, 0, version);

@@ -1,10 +1,12 @@
 use Rattle.std.proofs.Common.{◌≡◌, ◌+◌, ℕ, List, ap, subst, ◌∙◌}
 use Rattle.conda_clause.specs.Faults.{place_of}
 use Rattle.conda_clause.specs.Kept.{kept}
-use Rattle.conda_spec.specs.Cuts.{begins_with}
-use Rattle.conda_spec.specs.Faults.{Gives, Read}
+use Rattle.conda_base.specs.Texts.{begins_with}
+use Rattle.conda_base.specs.Reads.{Gives}
+use Rattle.conda_clause.specs.Faults.{spec_fault_of}
+use Rattle.conda_spec.specs.Reading.{SpecRead}
 use Rattle.conda_spec.specs.Good.{stood}
-use Rattle.conda_spec.specs.Reading.{Wanted, followed_read, wanted_read}
+use Rattle.conda_spec.specs.Reading.{VersionAndBuild, followed_read, wanted_read}
 use Rattle.conda_spec.proofs.follow.followed.Goals as goal
 
 pub returns-clause-read : goal.returns-clause-read
@@ -18,5 +20,5 @@ returns-clause-read c =
     ∙ ap (λ b. wanted_read whole b c.as_str.result.now) c.begins_with.ensures
     ∙ ap (wanted_read whole (begins_with 32 text)) (c.as_str.ensures ∙ c.in_ok-stayed.ensures.text)
     in
-    let P : Read Wanted → Type 0 = Gives c.wanted.result in
+    let P : SpecRead VersionAndBuild → Type 0 = Gives spec_fault_of c.wanted.result in
     subst P same c.wanted.ensures.read

@@ -1,7 +1,9 @@
 use Rattle.std.proofs.Common.{◌≡◌, ◌+◌, ℕ, List, ap, subst, ◌∙◌}
 use Rattle.conda_clause.specs.Faults.{place_of}
 use Rattle.conda_clause.specs.Kept.{kept}
-use Rattle.conda_spec.specs.Faults.{Gives, Read}
+use Rattle.conda_base.specs.Reads.{Gives}
+use Rattle.conda_clause.specs.Faults.{spec_fault_of}
+use Rattle.conda_spec.specs.Reading.{SpecRead}
 use Rattle.conda_spec.specs.Good.{stood}
 use Rattle.conda_spec.specs.Reading.{clause_at, clause_value}
 use Rattle.conda_spec.proofs.items.clause_value.Goals as goal
@@ -16,5 +18,5 @@ returns-clause-read c =
     ap (λ p. clause_at p 0 0 c.as_str.result.now) c.in_ok-stayed.ensures.places
     ∙ ap (clause_at whole 0 0) (c.as_str.ensures ∙ c.in_ok-stayed.ensures.text)
     in
-    let P : Read (List ℕ) → Type 0 = Gives c.clause_at.result in
+    let P : SpecRead (List ℕ) → Type 0 = Gives spec_fault_of c.clause_at.result in
     subst P same c.clause_at.ensures.read

@@ -1,19 +1,22 @@
 use Rattle.std.proofs.Common.{None, sym, ap, subst, ◌∙◌, arith, rules}
 use Rattle.conda_spec.specs.declared.given.Given.{Given}
-use Rattle.conda_spec.specs.Faults.{Fails, Gives, Read}
+use Rattle.conda_base.specs.Reads.{Gives}
+use Rattle.conda_clause.specs.Faults.{spec_fault_of}
+use Rattle.conda_spec.specs.Reading.{SpecRead}
+use Rattle.conda_spec.proofs.ItemLemmas.{Fails}
 use Rattle.conda_spec.specs.Reading.{items_of, items_read}
 use Rattle.conda_spec.proofs.ItemLemmas.{items_fail, items_last, items_next}
 use Rattle.conda_spec.proofs.items.items.Goals as goal
 
 pub returns-clause-read : goal.returns-clause-read
 returns-clause-read c =
-    let P : Read Given → Type 0 = Gives c.item-2.result in
+    let P : SpecRead Given → Type 0 = Gives spec_fault_of c.item-2.result in
     subst P (ap (items_read c.loop-first.given c.loop-first.at) (sym c.in_default.ensures.items) ∙ c.loop-first.invariant.3)
     (items_last c.item-2.result c.loop-first.given c.loop-first.at c.loop-first.left.now c.item-2.ensures.read)
 
 pub returns-in-Err-clause-read : goal.returns-in-Err-clause-read
 returns-in-Err-clause-read c =
-    let P : Read Given → Type 0 = Fails c.in-Err.e in
+    let P : SpecRead Given → Type 0 = Fails c.in-Err.e in
     subst P (ap (items_read c.loop-first.given c.loop-first.at) (sym c.in-Some.ensures.items) ∙ c.loop-first.invariant.3)
     (items_fail c.in-Err.e c.loop-first.given c.loop-first.at c.in-Some.first.now (items_of None c.in-Some.rest.now) c.in-Err.ensures.read)
 
