@@ -2,11 +2,14 @@
 #![tactic(auto)]
 
 mod base;
+mod clause;
 mod history;
 mod json;
 mod path;
 mod prefix;
+mod spec;
 mod version;
+mod words;
 
 use conda_base::Text;
 use rows_text::{Table, print_rows};
@@ -29,6 +32,15 @@ impl Table for Values {
             return Ok(Some(answer));
         }
         if let Some(answer) = version::answer(alloc, call, arguments)? {
+            return Ok(Some(answer));
+        }
+        if let Some(answer) = clause::answer(alloc, call, arguments)? {
+            return Ok(Some(answer));
+        }
+        if let Some(answer) = spec::answer(alloc, call, arguments)? {
+            return Ok(Some(answer));
+        }
+        if let Some(answer) = words::answer(alloc, call, arguments)? {
             return Ok(Some(answer));
         }
         if let Some(answer) = history::answer(alloc, call, arguments)? {
