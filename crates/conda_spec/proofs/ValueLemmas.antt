@@ -1,5 +1,5 @@
 -- Channels, builds and version clauses.
-use Rattle.std.proofs.Common.{◌≡◌, ◌∙◌, ◌||◌, ◌<◌, ℕ, Bool, true, false, not, length, map, List, [], ◌∷◌, refl, sym, ap, arith, true≢false, subst, Option, None, Some, Ok}
+use Rattle.std.proofs.Common.{◌≡◌, ◌∙◌, ◌||◌, ◌<◌, ℕ, Bool, true, false, length, map, List, [], ◌∷◌, refl, ap, arith, true≢false, subst, Option, None, Some, Ok}
 use Rattle.conda_base.specs.Reads.{unless}
 use Rattle.conda_clause.specs.Faults.{kept_read}
 use Rattle.std.specs.Char.{to_ascii_lowercase}

@@ -1,4 +1,5 @@
--- How a specification is read: conda's match_spec.py, in this project's profile.
+-- How a specification is read, and which fault of one that is none is answered, with its place: conda's match_spec.py, in this
+-- project's profile. Which texts are read, and with which parts, is what the grammar says, and a law ties the two.
 use Rattle.std.specs.Prelude.{ℕ, Bool, false, not, nat_eq, nat_lt, ◌+◌, ◌-◌, ◌==◌, ◌&&◌, ◌||◌, if◌then◌else◌, List, [], ◌∷◌, ◌++◌, codes, length, map, drop, Option, None, Some, unwrap_or, is_some, Ok, Err}
 use Rattle.std.specs.Option.{option_map, option_and_then, option_or}
 use Rattle.std.specs.Char.{to_ascii_lowercase}
