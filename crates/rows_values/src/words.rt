@@ -6,9 +6,16 @@ use std::alloc::{AllocError, Global};
 pub fn answer(alloc: Global, call: &str, arguments: &[Text]) -> Result<Option<String>, AllocError> {
     match (call, arguments) {
         ("words", [text]) => Ok(Some(words(alloc, spaced(alloc, text.as_str())?.as_slice())?)),
-        ("words.list", words_given) => Ok(Some(words(alloc, owned(alloc, words_given)?.as_slice())?)),
+        ("words.list", words_given) => Ok(Some(words(
+            alloc,
+            owned(alloc, words_given)?.as_slice(),
+        )?)),
         ("words.none", _) => Ok(Some(words(alloc, &[])?)),
-        ("script.after", [count, text]) => Ok(Some(script_after(alloc, count.as_str(), text.as_str())?)),
+        ("script.after", [count, text]) => Ok(Some(script_after(
+            alloc,
+            count.as_str(),
+            text.as_str(),
+        )?)),
         ("script", [text]) => Ok(Some(script(alloc, text.as_str())?)),
         _ => Ok(None),
     }
