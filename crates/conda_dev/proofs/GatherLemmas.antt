@@ -11,7 +11,7 @@ use Rattle.conda_path.specs.Lanes.{lane_number}
 use Rattle.conda_dev.specs.declared.mem_lane.MemLane.{MemLane}
 use Rattle.conda_dev.specs.Lanes.{InPlace}
 use Rattle.conda_dev.specs.Tree.{Tree, first_of, in_share, joined, together}
-use Rattle.conda_dev.proofs.LaneLemmas.{LinesUp, no_lanes, one_more_lane, all_lanes}
+use Rattle.conda_dev.specs.Lanes.{LinesUp, no_lanes, one_more_lane, all_lanes}
 use Rattle.conda_dev.specs.Memory.{node_at, told_of, trees_of}
 
 first_none : (found : Option Node) → first_of found None ≡ found
@@ -65,7 +65,7 @@ all_below l n h = grind (arith, nat_tests)
 -- ---- lanes that are lent one after another
 
 abbrev pub IsLinedUp : ℕ → ℕ → List MemLane → Type 0
-IsLinedUp = LinesUp (λ (lane : MemLane). lane.number) (λ lane. lane.lanes) (λ lane. lane.meter.faults)
+IsLinedUp = LinesUp (λ (lane : MemLane). lane.number) (λ lane. lane.lanes) (λ lane. lane.meter.faults.count)
 
 pub record SoFar (number lanes : ℕ) (from made : List MemLane) : Type 0 where
   pub lined : IsLinedUp number lanes made
@@ -73,16 +73,16 @@ pub record SoFar (number lanes : ℕ) (from made : List MemLane) : Type 0 where
 
 pub begins : (lanes : ℕ) (from : List MemLane) → SoFar 0 lanes from []
 begins lanes from = record {
-  lined = no_lanes (λ (lane : MemLane). lane.number) (λ lane. lane.lanes) (λ lane. lane.meter.faults) lanes;
+  lined = no_lanes (λ (lane : MemLane). lane.number) (λ lane. lane.lanes) (λ lane. lane.meter.faults.count) lanes;
   nodes = λ q. sym (ap (λ b. cond b (node_at (trees_of from) q) None) (none_below (lane_number q lanes)));
 }
 
 pub goes_on : (number lanes : ℕ) (from made : List MemLane) (lane : MemLane) → SoFar number lanes from made
-    → lane.number ≡ number → lane.lanes ≡ lanes → lane.meter.faults ≡ 0
+    → lane.number ≡ number → lane.lanes ≡ lanes → lane.meter.faults.count ≡ 0
     → ((q : List ℕ) → trees.get lane.tree q ≡ in_share number lanes q (node_at (trees_of from) q))
     → SoFar (number + 1) lanes from (made ++ lane ∷ [])
 goes_on number lanes from made lane far its_number its_lanes its_faults its_nodes = record {
-  lined = one_more_lane (λ (lane : MemLane). lane.number) (λ lane. lane.lanes) (λ lane. lane.meter.faults) number lanes made lane far.lined its_number its_lanes its_faults;
+  lined = one_more_lane (λ (lane : MemLane). lane.number) (λ lane. lane.lanes) (λ lane. lane.meter.faults.count) number lanes made lane far.lined its_number its_lanes its_faults;
   nodes = λ q.
       ap (λ ts. node_at ts q) (map-append (λ (l : MemLane). l.tree) made (lane ∷ [])) ∙ node_at-append (trees_of made) (lane.tree ∷ []) q
       ∙ ap (λ o. first_of o (first_of (trees.get lane.tree q) None)) (far.nodes q)
@@ -130,10 +130,10 @@ told_of-trees [] = refl
 told_of-trees (lane ∷ lanes) = ap (λ rest. Some lane.tree ∷ rest) (told_of-trees lanes)
 
 pub ended : (lanes : ℕ) (from made : List MemLane) → 1 ≤ lanes → SoFar lanes lanes from made
-    → (length made ≡ lanes) × InPlace (λ (lane : MemLane). lane.number) (λ lane. lane.lanes) made × All (λ (lane : MemLane). lane.meter.faults ≡ 0) made × (together (told_of made) ≡ together (told_of from))
+    → (length made ≡ lanes) × InPlace (λ (lane : MemLane). lane.number) (λ lane. lane.lanes) made × All (λ (lane : MemLane). lane.meter.faults.count ≡ 0) made × (together (told_of made) ≡ together (told_of from))
 ended lanes from made some far =
     let inside = λ (q : List ℕ). ap (λ b. cond b (node_at (trees_of from) q) None) (all_below (lane_number q lanes) lanes (omega arith)) in
-    let placed = all_lanes (λ (lane : MemLane). lane.number) (λ lane. lane.lanes) (λ lane. lane.meter.faults) lanes made far.lined in (
+    let placed = all_lanes (λ (lane : MemLane). lane.number) (λ lane. lane.lanes) (λ lane. lane.meter.faults.count) lanes made far.lined in (
       placed.0,
       placed.1,
       far.lined.unharmed,

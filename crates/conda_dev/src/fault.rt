@@ -1,5 +1,5 @@
 ghost use Rattle.std.specs.Prelude.{◌≡◌, IfOk};
-ghost use Rattle.conda_dev.specs.Plan.{is_lane, plan_of, same_target};
+ghost use Rattle.conda_dev.specs.Plan.{is_lane, plan_of};
 
 use conda_base::Copied;
 use conda_path::Prefix;
@@ -26,7 +26,7 @@ pub enum Effect {
 }
 
 /// A memory form whose calls are to fail.
-#[derive(Debug, Drop)]
+#[derive(Clone, Debug, PartialEq, Eq, Drop)]
 pub enum Target {
     /// The lanes of a prefix with this number, one after another. `MemLane::make` passes over the prefix.
     Lane { prefix: Prefix, number: u32 },
@@ -37,7 +37,7 @@ pub enum Target {
 
 /// One call that is to fail, before or after its effect. Only calls that can fail are counted, from 1.
 /// Of two entries for one call the first counts.
-#[derive(Debug, Drop)]
+#[derive(Clone, Debug, PartialEq, Eq, Drop)]
 pub struct FailAt {
     pub on: Target,
     pub call: u64,
@@ -51,78 +51,21 @@ pub struct Planned {
     pub effect: Effect,
 }
 
-impl Effect {
-    /// An equal value.
-    pub fn copy(&self, _alloc: Global) -> Result<Effect, AllocError>
-        ensures { IfOk result (λ made. made ≡ self.now) }
-    {
+impl Copied for Effect {
+    fn copy(&self) -> Result<Effect, AllocError> {
         Ok(*self)
     }
 }
 
-impl Copied for Effect {
-    fn copied(&self, alloc: Global) -> Result<Effect, AllocError> {
-        self.copy(alloc)
-    }
-}
-
-impl Target {
-    /// An equal value.
-    pub fn copy(&self, alloc: Global) -> Result<Target, AllocError>
-        ensures { IfOk result (λ made. made ≡ self.now) }
-    {
-        match self {
-            Target::Lane { prefix, number } => Ok(Target::Lane {
-                prefix: prefix.copy(alloc)?,
-                number: *number,
-            }),
-            Target::Host => Ok(Target::Host),
-            Target::Input => Ok(Target::Input),
-            Target::Output => Ok(Target::Output),
-        }
-    }
-}
-
 impl Copied for Target {
-    fn copied(&self, alloc: Global) -> Result<Target, AllocError> {
-        self.copy(alloc)
-    }
-}
-
-impl FailAt {
-    /// An equal value.
-    pub fn copy(&self, alloc: Global) -> Result<FailAt, AllocError>
-        ensures { IfOk result (λ made. made ≡ self.now) }
-    {
-        Ok(FailAt {
-            on: self.on.copy(alloc)?,
-            call: self.call,
-            effect: self.effect,
-        })
+    fn copy(&self) -> Result<Target, AllocError> {
+        self.clone()
     }
 }
 
 impl Copied for FailAt {
-    fn copied(&self, alloc: Global) -> Result<FailAt, AllocError> {
-        self.copy(alloc)
-    }
-}
-
-fn is_same(target: &Target, on: &Target) -> bool
-    ensures { result ≡ same_target target.now on.now }
-{
-    match (target, on) {
-        (
-            Target::Lane { prefix, number },
-            Target::Lane {
-                prefix: other,
-                number: place,
-            },
-        ) => { prefix == other && number == place }
-        (Target::Host, Target::Host) => true,
-        (Target::Input, Target::Input) => true,
-        (Target::Output, Target::Output) => true,
-        _ => false,
+    fn copy(&self) -> Result<FailAt, AllocError> {
+        self.clone()
     }
 }
 
@@ -132,11 +75,11 @@ pub fn plan_for(
     fails: &[FailAt],
     target: &Target,
 ) -> Result<Vec<Planned>, AllocError>
-    ensures { IfOk result (λ plan. plan.items ≡ plan_of (same_target target.now) fails.now) }
+    ensures { IfOk result (λ plan. plan.items ≡ plan_of (⟦<Target as PartialEq>⟧.eq target.now) fails.now) }
 {
     let mut plan = Vec::new(alloc);
     for fail in fails {
-        if is_same(target, &fail.on) {
+        if *target == fail.on {
             plan.push(Planned {
                 call: fail.call,
                 effect: fail.effect,

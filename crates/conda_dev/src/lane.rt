@@ -57,18 +57,9 @@ pub trait Lane: Send + Drop {
     ghost share: { (lane : Self) → LiesInShare (told lane) (number lane) (lanes lane) };
 }
 
-impl Seen {
-    /// An equal value.
-    pub fn copy(&self, _alloc: Global) -> Result<Seen, AllocError>
-        ensures { IfOk result (λ made. made ≡ self.now) }
-    {
-        Ok(*self)
-    }
-}
-
 impl Copied for Seen {
-    fn copied(&self, alloc: Global) -> Result<Seen, AllocError> {
-        self.copy(alloc)
+    fn copy(&self) -> Result<Seen, AllocError> {
+        Ok(*self)
     }
 }
 

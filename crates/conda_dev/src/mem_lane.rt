@@ -41,7 +41,7 @@ impl MemLane {
             number,
             lanes,
             tree,
-            meter: Meter::new(plan),
+            meter: Meter::new(0, plan),
         })
     }
 }
@@ -65,15 +65,15 @@ impl Lane for MemLane {
 
     ghost told = { λ lane. Some lane.tree };
 
-    ghost faults = { λ lane. lane.meter.faults };
+    ghost faults = { λ lane. lane.meter.faults.count };
 
     fn faults(&self) -> u64 {
-        self.meter.faults
+        self.meter.faults.count
     }
 
     fn look(&mut self, path: &RelPath) -> Result<Option<Seen>, Failed> {
         if self.meter.next().is_some() {
-            self.meter.fail();
+            self.meter.faults.raise();
             return Err(Failed);
         }
         match self.tree.get(path) {
@@ -84,7 +84,7 @@ impl Lane for MemLane {
 
     fn read(&mut self, alloc: Global, path: &RelPath, max: u64) -> Result<Option<Node>, DeviceErr> {
         if self.meter.next().is_some() {
-            self.meter.fail();
+            self.meter.faults.raise();
             return Err(DeviceErr::Failed);
         }
         let Some(node) = self.tree.get(path) else {

@@ -9,6 +9,7 @@ use crate::fault::{FailAt, Target, plan_for};
 use crate::mem_lane::MemLane;
 use crate::meter::Meter;
 use crate::tree::{Tree, add_share};
+use conda_base::Copied;
 use conda_path::Prefix;
 use std::alloc::{AllocError, Global};
 use std::collections::BTreeMap;
@@ -56,12 +57,12 @@ fn lent_lane(
     requires { 1 ≤ lanes }
     ensures number { IfOk result (λ lane. lane.number ≡ number) }
     ensures lanes { IfOk result (λ lane. lane.lanes ≡ lanes) }
-    ensures unharmed { IfOk result (λ lane. lane.meter.faults ≡ 0) }
+    ensures unharmed { IfOk result (λ lane. lane.meter.faults.count ≡ 0) }
     ensures nodes { IfOk result (λ lane. (path : List ℕ) → tree.get lane.tree path ≡ in_share number lanes path (node_at (trees_of from.now) path)) }
 {
     let tree = gathered(alloc, from, number, lanes)?;
     let target = Target::Lane {
-        prefix: prefix.copy(alloc)?,
+        prefix: prefix.copy()?,
         number,
     };
     let planned = plan_for(alloc, fails, &target)?;
@@ -69,11 +70,7 @@ fn lent_lane(
         number,
         lanes,
         tree,
-        meter: Meter {
-            calls,
-            faults: 0,
-            planned,
-        },
+        meter: Meter::new(calls, planned),
     })
 }
 
@@ -89,7 +86,7 @@ fn lent_lanes(
     requires { 1 ≤ lanes }
     ensures count { IfOk result (λ made. length made.items ≡ lanes) }
     ensures placed { IfOk result (λ made. InPlace (λ (lane : MemLane). lane.number) (λ lane. lane.lanes) made.items) }
-    ensures unharmed { IfOk result (λ made. All (λ lane. lane.meter.faults ≡ 0) made.items) }
+    ensures unharmed { IfOk result (λ made. All (λ lane. lane.meter.faults.count ≡ 0) made.items) }
     ensures tree { IfOk result (λ made. together (told_of made.items) ≡ together (told_of from.now)) }
 {
     let mut made = Vec::new(alloc);
@@ -138,7 +135,7 @@ pub fn lend(
     requires { 1 ≤ lanes }
     ensures count { IfOk result (λ made. length made.items ≡ lanes) }
     ensures placed { IfOk result (λ made. InPlace (λ (lane : MemLane). lane.number) (λ lane. lane.lanes) made.items) }
-    ensures unharmed { IfOk result (λ made. All (λ lane. lane.meter.faults ≡ 0) made.items) }
+    ensures unharmed { IfOk result (λ made. All (λ lane. lane.meter.faults.count ≡ 0) made.items) }
     ensures tree { IfOk result (λ made. together (told_of made.items) ≡ told_in (place_at places.old.entries prefix.now)) }
     ensures lent { OnOk result (lent_in (place_at places.new.entries prefix.now) ≡ true) }
     ensures others { SameOfOthers prefix.now (place_at places.old.entries) (place_at places.new.entries) }
@@ -158,7 +155,7 @@ pub fn lend(
         lanes: Vec::new(alloc),
         calls,
     };
-    places.insert(prefix.copy(alloc)?, place)?;
+    places.insert(prefix.copy()?, place)?;
     Ok(made)
 }
 
@@ -183,17 +180,6 @@ pub fn return_lanes(places: &mut BTreeMap<Prefix, Place>, prefix: &Prefix, lanes
     }
 }
 
-/// A count of faults with those of lanes, or its last value.
-pub fn total_faults(before: u64, lanes: &[MemLane]) -> u64
-    ensures { result ≡ min (before + sum_by (λ lane. lane.meter.faults) lanes.now) (2 ^ 64 - 1) }
-{
-    let mut total = before;
-    for lane in lanes {
-        total = total.saturating_add(lane.meter.faults);
-    }
-    total
-}
-
 /// A prefix that was never lent.
 fn first_place(alloc: Global, tree: Tree) -> Result<Place, AllocError>
     ensures tree { IfOk result (λ place. together (told_of place.lanes.items) ≡ Some tree) }
@@ -203,7 +189,7 @@ fn first_place(alloc: Global, tree: Tree) -> Result<Place, AllocError>
         number: 0,
         lanes: 1,
         tree,
-        meter: Meter::new(Vec::new(alloc)),
+        meter: Meter::new(0, Vec::new(alloc)),
     };
     let mut lanes = Vec::new(alloc);
     lanes.push(lane)?;

@@ -1,0 +1,37 @@
+ghost use Rattle.std.specs.Prelude.{◌≡◌, ◌+◌, ◌-◌, ◌^◌, ◌≤◌, min, sum_by};
+ghost use Rattle.conda_dev.specs.Fault.{Rose};
+
+use crate::lane::Lane;
+
+/// A count of faults. It stands still at the last value of its type.
+#[derive(Debug, Drop)]
+pub struct FaultCount {
+    pub count: u64,
+}
+
+impl FaultCount {
+    /// Nothing failed yet. It takes no memory.
+    pub fn new() -> FaultCount
+        ensures { result.count ≡ 0 }
+    {
+        FaultCount { count: 0 }
+    }
+
+    /// Counts a fault. It takes no memory.
+    pub fn raise(&mut self)
+        ensures later { self.old.count ≤ self.new.count }
+        ensures rose { Rose self.old.count self.new.count }
+        ensures exact { self.new.count ≡ min (self.old.count + 1) (2 ^ 64 - 1) }
+    {
+        self.count = self.count.saturating_add(1);
+    }
+
+    /// Adds the counts of lanes. It takes no memory.
+    pub fn add_lanes<L: Lane>(&mut self, lanes: &[L])
+        ensures { self.new.count ≡ min (self.old.count + sum_by L.faults lanes.now) (2 ^ 64 - 1) }
+    {
+        for lane in lanes {
+            self.count = self.count.saturating_add(lane.faults());
+        }
+    }
+}
