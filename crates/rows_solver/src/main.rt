@@ -1,0 +1,24 @@
+//! The rows of the solver and its checker.
+#![tactic(auto)]
+
+use conda_base::Text;
+use rows_text::{Table, print_rows};
+use std::alloc::{AllocError, Global};
+use std::io;
+
+struct Solver;
+
+impl Table for Solver {
+    fn answer(
+        &self,
+        _alloc: Global,
+        _call: &str,
+        _arguments: &[Text],
+    ) -> Result<Option<String>, AllocError> {
+        Ok(None)
+    }
+}
+
+fn main(rt: HostRuntime) -> io::Result<()> {
+    print_rows(&rt, &Solver)
+}
