@@ -38,11 +38,11 @@ pub record CanTakeBack {L : Type 0} (number lanes : L → ℕ) (prefix : List �
 
 -- A prefix was taken back with these lanes. Its tree is the one that they tell together, and the count of lanes'
 -- faults rose by exactly theirs, or to its last value.
-pub record TakesBack {L : Type 0} (told : L → Option Tree) (faults : L → ℕ) (prefix : List ℕ) (all : List L) (before now : HostState) : Type 0 where
-  pub tree : now.told prefix ≡ together (map told all)
+pub record TakesBack {L : Type 0} (told_by : L → Option Tree) (faults_of : L → ℕ) (prefix : List ℕ) (all : List L) (before now : HostState) : Type 0 where
+  pub tree : now.told prefix ≡ together (map told_by all)
   pub others : SameOfOthers prefix before.told now.told
   pub returned : IsReturned prefix before.lent now.lent
-  pub lane_faults : now.lane_faults ≡ min (before.lane_faults + sum_by faults all) (2 ^ 64 - 1)
+  pub lane_faults : now.lane_faults ≡ min (before.lane_faults + sum_by faults_of all) (2 ^ 64 - 1)
   pub faults : now.faults ≡ before.faults
 
 -- ---- laws, for callers of `lanes` and `take_back`

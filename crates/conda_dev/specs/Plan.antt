@@ -1,10 +1,11 @@
 -- Which calls of a memory form fail. This project's own.
-use Rattle.std.specs.Prelude.{◌==◌, ℕ, ◌+◌, ◌-◌, ◌^◌, min, Bool, false, List, find, filter, map, Option, option_map}
+use Rattle.std.specs.Prelude.{◌==◌, ℕ, ◌+◌, ◌-◌, ◌^◌, min, Bool, true, false, ◌&&◌, List, find, filter, map, Option, option_map}
+use Rattle.std.specs.Str.{bytes_eq}
 use Rattle.conda_dev.specs.declared.fault.Effect.{Effect}
 use Rattle.conda_dev.specs.declared.fault.FailAt.{FailAt}
 use Rattle.conda_dev.specs.declared.fault.Planned.{Planned}
 use Rattle.conda_dev.specs.declared.fault.Target.{Target}
-use Rattle.conda_dev.specs.declared.fault.Target.TheVariants.{Lane}
+use Rattle.conda_dev.specs.declared.fault.Target.TheVariants.{Lane, Host, Input, Output}
 
 -- the number of the call after this many calls
 abbrev pub next_call : ℕ → ℕ
@@ -13,6 +14,14 @@ next_call calls = min (calls + 1) (2 ^ 64 - 1)
 -- how the call of this number fails, if it is to: of two entries for one call the first counts
 abbrev pub effect_at : List Planned → ℕ → Option Effect
 effect_at planned call = option_map (λ entry. entry.effect) (find (λ entry. entry.call == call) planned)
+
+-- whether two targets are one
+abbrev pub same_target : Target → Target → Bool
+same_target (Lane prefix number) (Lane other place) = bytes_eq prefix other && (number == place)
+same_target Host Host = true
+same_target Input Input = true
+same_target Output Output = true
+same_target _ _ = false
 
 -- whether a target is a lane of this number
 abbrev pub is_lane : ℕ → Target → Bool

@@ -30,8 +30,10 @@ impl FaultCount {
     pub fn add_lanes<L: Lane>(&mut self, lanes: &[L])
         ensures { self.new.count ≡ min (self.old.count + sum_by L.faults lanes.now) (2 ^ 64 - 1) }
     {
+        let mut total = self.count;
         for lane in lanes {
-            self.count = self.count.saturating_add(lane.faults());
+            total = total.saturating_add(lane.faults());
         }
+        self.count = total;
     }
 }

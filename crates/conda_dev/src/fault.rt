@@ -1,5 +1,5 @@
 ghost use Rattle.std.specs.Prelude.{◌≡◌, IfOk};
-ghost use Rattle.conda_dev.specs.Plan.{is_lane, plan_of};
+ghost use Rattle.conda_dev.specs.Plan.{is_lane, plan_of, same_target};
 
 use conda_base::Copied;
 use conda_path::Prefix;
@@ -69,17 +69,23 @@ impl Copied for FailAt {
     }
 }
 
+fn is_same(target: &Target, on: &Target) -> bool
+    ensures { result ≡ same_target target.now on.now }
+{
+    target == on
+}
+
 /// The calls of a target that are to fail.
 pub fn plan_for(
     alloc: Global,
     fails: &[FailAt],
     target: &Target,
 ) -> Result<Vec<Planned>, AllocError>
-    ensures { IfOk result (λ plan. plan.items ≡ plan_of (⟦<Target as PartialEq>⟧.eq target.now) fails.now) }
+    ensures { IfOk result (λ plan. plan.items ≡ plan_of (same_target target.now) fails.now) }
 {
     let mut plan = Vec::new(alloc);
     for fail in fails {
-        if *target == fail.on {
+        if is_same(target, &fail.on) {
             plan.push(Planned {
                 call: fail.call,
                 effect: fail.effect,

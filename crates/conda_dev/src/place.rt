@@ -31,7 +31,7 @@ fn gathered(alloc: Global, from: &[MemLane], number: u32, lanes: u32) -> Result<
 {
     let mut made = Tree::new(alloc);
     for lane in from {
-        add_share(alloc, &mut made, &lane.tree, number, lanes)?;
+        add_share(&mut made, &lane.tree, number, lanes)?;
     }
     Ok(made)
 }
