@@ -1,4 +1,3 @@
-pub mod ListLemmas
 pub mod TreeLemmas
 pub mod GatherLemmas
 pub mod PlaceLemmas

@@ -6,6 +6,7 @@ use Rattle.std.specs.Cmp.Lexicographic.{slice_cmp, nat_list_cmp_total, texts_tie
 use Rattle.std.specs.BTreeMap.{is_at}
 use Rattle.std.specs.Str.{bytes_eq}
 use Rattle.conda_dev.specs.declared.place.Place.{Place}
+use Rattle.conda_dev.specs.Keys.{same_test}
 use Rattle.conda_dev.specs.Tree.{Tree, together}
 use Rattle.conda_dev.specs.Memory.{given, lent_in, told_in, told_of}
 use Rattle.conda_dev.proofs.TreeLemmas.{keyed}
@@ -13,9 +14,6 @@ use Rattle.conda_dev.proofs.TreeLemmas.{keyed}
 -- another prefix isn't found for this one
 pub apart : (p q : List ℕ) → q ≢ p → is_at (slice_cmp nat_cmp p) q ≡ false
 apart p q ne = elim (is_at (slice_cmp nat_cmp p) q) as (λ b. is_at (slice_cmp nat_cmp p) q ≡ b → b ≡ false) [ true ↦ λ t. absurd (ne (sym (keyed p q t))) | false ↦ λ f. refl ] refl
-
-pub same_test : (p q : List ℕ) → is_at (slice_cmp nat_cmp p) q ≡ bytes_eq q p
-same_test p q = (eq_by_cmp_equiv nat_list_cmp_total).symm p q ∙ sym (texts_ties q p)
 
 -- one more prefix is put
 pub given_step : (rest : List (List ℕ × Tree)) (q p : List ℕ) (tree : Tree) (place : Place) (old new : Option Place)

@@ -14,6 +14,13 @@ pub record HostState : Type 0 where
   pub faults : ℕ
   pub lane_faults : ℕ
 
+-- a host as it is made: nothing is lent or failed, and these are the trees
+pub record IsNew (trees : List ℕ → Option Tree) (host : HostState) : Type 0 where
+  pub told : (prefix : List ℕ) → host.told prefix ≡ trees prefix
+  pub free : (prefix : List ℕ) → host.lent prefix ≡ false
+  pub unharmed : host.faults ≡ 0
+  pub lanes_unharmed : host.lane_faults ≡ 0
+
 -- each prefix has what it had: the tree that is told of it, or whether it is lent
 abbrev pub SameOfAll : {A : Type 0} → (List ℕ → A) → (List ℕ → A) → Type 0
 SameOfAll before now = (prefix : List ℕ) → now prefix ≡ before prefix

@@ -11,6 +11,12 @@ pub record InPlace {L : Type 0} (number lanes : L → ℕ) (all : List L) : Type
   pub numbers : map number all ≡ range_with_len 0 (length all)
   pub counts : map lanes all ≡ replicate (length all) (length all)
 
+-- these are so many lanes, each at the place of its number, and none has a fault
+pub record AreNew {L : Type 0} (number lanes faults : L → ℕ) (n : ℕ) (all : List L) : Type 0 where
+  pub count : length all ≡ n
+  pub placed : InPlace number lanes all
+  pub unharmed : All (λ lane. faults lane ≡ 0) all
+
 -- so many lanes of all stand in the order of their numbers, with no fault
 pub record LinesUp {L : Type 0} (number lanes faults : L → ℕ) (have all : ℕ) (made : List L) : Type 0 where
   pub numbers : map number made ≡ range_with_len 0 have
@@ -47,15 +53,17 @@ module _ {L : Type 0} (number lanes faults : L → ℕ) where
         All-append (λ l. faults l ≡ 0) made (lane ∷ []) lined.unharmed (All-cons (λ l. faults l ≡ 0) lane [] its_faults none);
   }
 
-  pub all_lanes : (all : ℕ) (made : List L) → LinesUp number lanes faults all all made → (length made ≡ all) × InPlace number lanes made
+  pub all_lanes : (all : ℕ) (made : List L) → LinesUp number lanes faults all all made → AreNew number lanes faults all made
   all_lanes all made lined =
-      let len : length made ≡ all = sym (length-map made number) ∙ ap length lined.numbers ∙ length-range_with_len 0 all in (
-        len,
-        record {
+      let len : length made ≡ all = sym (length-map made number) ∙ ap length lined.numbers ∙ length-range_with_len 0 all in
+      record {
+        count = len;
+        placed = record {
           numbers = lined.numbers ∙ ap (range_with_len 0) (sym len);
           counts = lined.counts ∙ ap (λ n. replicate n n) (sym len);
-        },
-      )
+        };
+        unharmed = lined.unharmed;
+      }
 
 -- ---- laws, for what calls one of several lanes
 

@@ -28,15 +28,16 @@ pub enum Effect {
 /// A memory form whose calls are to fail.
 #[derive(Clone, Debug, PartialEq, Eq, Drop)]
 pub enum Target {
-    /// The lanes of a prefix with this number, one after another. `MemLane::make` passes over the prefix.
+    /// The lanes of a prefix with this number, one after another. `MemLane::make` passes over the
+    /// prefix.
     Lane { prefix: Prefix, number: u32 },
     Host,
     Input,
     Output,
 }
 
-/// One call that is to fail, before or after its effect. Only calls that can fail are counted, from 1.
-/// Of two entries for one call the first counts.
+/// One call that is to fail, before or after its effect. Only calls that can fail are counted,
+/// from 1. Of two entries for one call the first counts.
 #[derive(Clone, Debug, PartialEq, Eq, Drop)]
 pub struct FailAt {
     pub on: Target,

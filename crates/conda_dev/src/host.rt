@@ -1,7 +1,8 @@
 ghost use Rattle.std.specs.Prelude.{◌≡◌, ◌≤◌, false, length, map, All, IfOk, OnOk, OnErr};
 ghost use Rattle.conda_dev.specs.Fault.{HasDeviceCause};
-ghost use Rattle.conda_dev.specs.Hosts.{CanTakeBack, HostState, IsLentToo, SameOfAll, SameOfOthers, TakesBack};
-ghost use Rattle.conda_dev.specs.Lanes.{InPlace};
+ghost use Rattle.conda_dev.specs.Hosts.{CanTakeBack, HostState, IsLentToo, SameOfAll};
+ghost use Rattle.conda_dev.specs.Hosts.{SameOfOthers, TakesBack};
+ghost use Rattle.conda_dev.specs.Lanes.{AreNew};
 ghost use Rattle.conda_dev.specs.Tree.{together};
 
 use crate::fault::DeviceErr;
@@ -16,7 +17,8 @@ pub trait Host {
     /// What it tells of itself.
     ghost state: { Self → HostState };
 
-    /// How often it failed itself. The count never falls, and stands still at the last value of its type.
+    /// How often it failed itself. The count never falls, and stands still at the last value of
+    /// its type.
     fn faults(&self) -> u64
         ensures { result ≡ (state self.now).faults };
 
@@ -32,12 +34,12 @@ pub trait Host {
         requires some { 1 ≤ n }
         requires free { (state self.old).lent prefix.now ≡ false }
 
-        ensures count { IfOk result (λ lanes. length lanes.items ≡ n) }
-        ensures placed { IfOk result (λ lanes. InPlace Self.Lane.number Self.Lane.lanes lanes.items) }
-        ensures unharmed { IfOk result (λ lanes. All (λ lane. Self.Lane.faults lane ≡ 0) lanes.items) }
+        ensures lanes { IfOk result (λ lanes.
+            AreNew Self.Lane.number Self.Lane.lanes Self.Lane.faults n lanes.items) }
         ensures tree { IfOk result (λ lanes.
             together (map Self.Lane.told lanes.items) ≡ (state self.old).told prefix.now) }
-        ensures lent { OnOk result (IsLentToo prefix.now (state self.old).lent (state self.new).lent) }
+        ensures lent { OnOk result
+            (IsLentToo prefix.now (state self.old).lent (state self.new).lent) }
 
         // Whatever the answer, the trees of the other prefixes stay, and after an error all.
         ensures others { SameOfOthers prefix.now (state self.old).told (state self.new).told }
@@ -49,6 +51,8 @@ pub trait Host {
 
     /// Takes a prefix back with all its lanes. It takes no memory.
     fn take_back(&mut self, prefix: &Prefix, lanes: Vec<Self::Lane>)
-        requires { CanTakeBack Self.Lane.number Self.Lane.lanes prefix.now lanes.items (state self.old) }
-        ensures { TakesBack Self.Lane.told Self.Lane.faults prefix.now lanes.items (state self.old) (state self.new) };
+        requires { CanTakeBack Self.Lane.number Self.Lane.lanes prefix.now lanes.items
+            (state self.old) }
+        ensures { TakesBack Self.Lane.told Self.Lane.faults prefix.now lanes.items
+            (state self.old) (state self.new) };
 }

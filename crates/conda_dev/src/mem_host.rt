@@ -1,6 +1,6 @@
 ghost use Rattle.std.specs.Prelude.{◌≡◌, List, ℕ, false, Some, IfOk};
 ghost use Rattle.std.specs.FinMap as tree;
-ghost use Rattle.conda_dev.specs.Hosts.{CanTakeBack, TakesBack};
+ghost use Rattle.conda_dev.specs.Hosts.{CanTakeBack, IsNew, TakesBack};
 ghost use Rattle.conda_dev.specs.Memory.{given, lent_in, place_at, told_in};
 
 use crate::count::FaultCount;
@@ -32,11 +32,8 @@ impl MemHost {
         prefixes: Vec<(Prefix, Tree)>,
         fails: Vec<FailAt>,
     ) -> Result<MemHost, AllocError>
-        ensures trees { IfOk result (λ host. (prefix : List ℕ)
-            → (⟦<MemHost as Host>⟧.state host).told prefix ≡ given prefixes.items (Some tree.empty) prefix) }
-        ensures free { IfOk result (λ host. (prefix : List ℕ) → (⟦<MemHost as Host>⟧.state host).lent prefix ≡ false) }
-        ensures unharmed { IfOk result (λ host. (⟦<MemHost as Host>⟧.state host).faults ≡ 0) }
-        ensures lanes_unharmed { IfOk result (λ host. (⟦<MemHost as Host>⟧.state host).lane_faults ≡ 0) }
+        ensures { IfOk result (λ host.
+            IsNew (given prefixes.items (Some tree.empty)) (⟦<MemHost as Host>⟧.state host)) }
     {
         let places = first_places(alloc, prefixes)?;
         let plan = plan_for(alloc, &fails, &Target::Host)?;
@@ -51,7 +48,8 @@ impl MemHost {
     /// The tree of a prefix that isn't lent.
     pub fn tree(&self, alloc: Global, prefix: &Prefix) -> Result<Tree, AllocError>
         requires { (⟦<MemHost as Host>⟧.state self.now).lent prefix.now ≡ false }
-        ensures { IfOk result (λ tree. (⟦<MemHost as Host>⟧.state self.now).told prefix.now ≡ Some tree) }
+        ensures { IfOk result (λ tree.
+            (⟦<MemHost as Host>⟧.state self.now).told prefix.now ≡ Some tree) }
     {
         whole_tree(alloc, lanes_at(&self.places, prefix))
     }
@@ -89,10 +87,11 @@ impl Host for MemHost {
     }
 
     fn take_back(&mut self, prefix: &Prefix, lanes: Vec<MemLane>)
-        requires { CanTakeBack ⟦<MemLane as Lane>⟧.number ⟦<MemLane as Lane>⟧.lanes prefix.now lanes.items
-            (⟦<MemHost as Host>⟧.state self.old) }
-        ensures { TakesBack ⟦<MemLane as Lane>⟧.told ⟦<MemLane as Lane>⟧.faults prefix.now lanes.items
-            (⟦<MemHost as Host>⟧.state self.old) (⟦<MemHost as Host>⟧.state self.new) }
+        requires { CanTakeBack ⟦<MemLane as Lane>⟧.number ⟦<MemLane as Lane>⟧.lanes
+            prefix.now lanes.items (⟦<MemHost as Host>⟧.state self.old) }
+        ensures { TakesBack ⟦<MemLane as Lane>⟧.told ⟦<MemLane as Lane>⟧.faults
+            prefix.now lanes.items (⟦<MemHost as Host>⟧.state self.old)
+            (⟦<MemHost as Host>⟧.state self.new) }
     {
         self.lane_faults.add_lanes(&lanes);
         return_lanes(&mut self.places, prefix, lanes);

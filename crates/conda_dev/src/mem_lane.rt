@@ -18,7 +18,8 @@ pub struct MemLane {
     pub(crate) lanes: u32,
     pub(crate) tree: Tree,
     pub(crate) meter: Meter,
-    ghost in_share: { (path : List ℕ) → IsSome (map.get tree path) → lane_number path lanes ≡ number },
+    ghost in_share: { (path : List ℕ)
+        → IsSome (map.get tree path) → lane_number path lanes ≡ number },
 }
 
 impl MemLane {

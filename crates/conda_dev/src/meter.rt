@@ -4,7 +4,8 @@ ghost use Rattle.conda_dev.specs.Plan.{effect_at, next_call};
 use crate::count::FaultCount;
 use crate::fault::{Effect, Planned};
 
-/// What a memory form counts: its calls that can fail, and its faults. The list says which of these calls fail.
+/// What a memory form counts: its calls that can fail, and its faults. The list says which of these
+/// calls fail.
 #[derive(Debug, Drop)]
 pub struct Meter {
     pub calls: u64,

@@ -1,8 +1,9 @@
-ghost use Rattle.std.specs.Prelude.{◌≡◌, ◌≢◌, ◌≤◌, ◌+◌, ◌-◌, ◌^◌, ℕ, true, false, List, Some, All, map, min, sum_by, length, IfOk, OnOk, OnErr};
+ghost use Rattle.std.specs.Prelude.{◌≡◌, ◌≤◌, ℕ, true, false, List, Some, IfOk, OnOk, OnErr};
 ghost use Rattle.std.specs.FinMap as tree;
 ghost use Rattle.conda_dev.specs.Hosts.{SameOfOthers};
-ghost use Rattle.conda_dev.specs.Lanes.{InPlace};
-ghost use Rattle.conda_dev.specs.Memory.{given, lent_in, node_at, place_at, told_in, told_of, trees_of};
+ghost use Rattle.conda_dev.specs.Lanes.{AreNew};
+ghost use Rattle.conda_dev.specs.Memory.{given, lent_in, node_at, place_at, told_in, told_of};
+ghost use Rattle.conda_dev.specs.Memory.{faults_of, lanes_of, number_of, trees_of};
 ghost use Rattle.conda_dev.specs.Tree.{in_share, together};
 
 use crate::fault::{FailAt, Target, plan_for};
@@ -27,7 +28,8 @@ pub struct Place {
 /// The nodes of lanes in the share of a number.
 fn gathered(alloc: Global, from: &[MemLane], number: u32, lanes: u32) -> Result<Tree, AllocError>
     requires { 1 ≤ lanes }
-    ensures { IfOk result (λ made. (path : List ℕ) → tree.get made path ≡ in_share number lanes path (node_at (trees_of from.now) path)) }
+    ensures { IfOk result (λ made. (path : List ℕ) → tree.get made path
+        ≡ in_share number lanes path (node_at (trees_of from.now) path)) }
 {
     let mut made = Tree::new(alloc);
     for lane in from {
@@ -58,7 +60,8 @@ fn lent_lane(
     ensures number { IfOk result (λ lane. lane.number ≡ number) }
     ensures lanes { IfOk result (λ lane. lane.lanes ≡ lanes) }
     ensures unharmed { IfOk result (λ lane. lane.meter.faults.count ≡ 0) }
-    ensures nodes { IfOk result (λ lane. (path : List ℕ) → tree.get lane.tree path ≡ in_share number lanes path (node_at (trees_of from.now) path)) }
+    ensures nodes { IfOk result (λ lane. (path : List ℕ) → tree.get lane.tree path
+        ≡ in_share number lanes path (node_at (trees_of from.now) path)) }
 {
     let tree = gathered(alloc, from, number, lanes)?;
     let target = Target::Lane {
@@ -84,10 +87,9 @@ fn lent_lanes(
     lanes: u32,
 ) -> Result<Vec<MemLane>, AllocError>
     requires { 1 ≤ lanes }
-    ensures count { IfOk result (λ made. length made.items ≡ lanes) }
-    ensures placed { IfOk result (λ made. InPlace (λ (lane : MemLane). lane.number) (λ lane. lane.lanes) made.items) }
-    ensures unharmed { IfOk result (λ made. All (λ lane. lane.meter.faults.count ≡ 0) made.items) }
-    ensures tree { IfOk result (λ made. together (told_of made.items) ≡ together (told_of from.now)) }
+    ensures lanes { IfOk result (λ made. AreNew number_of lanes_of faults_of lanes made.items) }
+    ensures tree { IfOk result (λ made.
+        together (told_of made.items) ≡ together (told_of from.now)) }
 {
     let mut made = Vec::new(alloc);
     for number in 0..lanes {
@@ -133,12 +135,12 @@ pub fn lend(
     lanes: u32,
 ) -> Result<Vec<MemLane>, AllocError>
     requires { 1 ≤ lanes }
-    ensures count { IfOk result (λ made. length made.items ≡ lanes) }
-    ensures placed { IfOk result (λ made. InPlace (λ (lane : MemLane). lane.number) (λ lane. lane.lanes) made.items) }
-    ensures unharmed { IfOk result (λ made. All (λ lane. lane.meter.faults.count ≡ 0) made.items) }
-    ensures tree { IfOk result (λ made. together (told_of made.items) ≡ told_in (place_at places.old.entries prefix.now)) }
+    ensures lanes { IfOk result (λ made. AreNew number_of lanes_of faults_of lanes made.items) }
+    ensures tree { IfOk result (λ made.
+        together (told_of made.items) ≡ told_in (place_at places.old.entries prefix.now)) }
     ensures lent { OnOk result (lent_in (place_at places.new.entries prefix.now) ≡ true) }
-    ensures others { SameOfOthers prefix.now (place_at places.old.entries) (place_at places.new.entries) }
+    ensures others { SameOfOthers prefix.now
+        (place_at places.old.entries) (place_at places.new.entries) }
     ensures err { OnErr result (places.new.entries ≡ places.old.entries) }
 {
     let made = lent_lanes(
@@ -169,9 +171,11 @@ fn count_calls(calls: &mut [u64], lanes: &[MemLane]) {
 /// Takes a prefix back with its lanes.
 pub fn return_lanes(places: &mut BTreeMap<Prefix, Place>, prefix: &Prefix, lanes: Vec<MemLane>)
     requires { lent_in (place_at places.old.entries prefix.now) ≡ true }
-    ensures tree { told_in (place_at places.new.entries prefix.now) ≡ together (told_of lanes.items) }
+    ensures tree {
+        told_in (place_at places.new.entries prefix.now) ≡ together (told_of lanes.items) }
     ensures free { lent_in (place_at places.new.entries prefix.now) ≡ false }
-    ensures others { SameOfOthers prefix.now (place_at places.old.entries) (place_at places.new.entries) }
+    ensures others { SameOfOthers prefix.now
+        (place_at places.old.entries) (place_at places.new.entries) }
 {
     if let Some(place) = places.get_mut(prefix) {
         count_calls(&mut place.calls, &lanes);
@@ -205,12 +209,14 @@ pub fn first_places(
     alloc: Global,
     prefixes: Vec<(Prefix, Tree)>,
 ) -> Result<BTreeMap<Prefix, Place>, AllocError>
-    ensures trees { IfOk result (λ places. (prefix : List ℕ) → told_in (place_at places.entries prefix) ≡ given prefixes.items (Some tree.empty) prefix) }
-    ensures free { IfOk result (λ places. (prefix : List ℕ) → lent_in (place_at places.entries prefix) ≡ false) }
+    ensures trees { IfOk result (λ places. (prefix : List ℕ)
+        → told_in (place_at places.entries prefix) ≡ given prefixes.items (Some tree.empty) prefix) }
+    ensures free { IfOk result (λ places. (prefix : List ℕ)
+        → lent_in (place_at places.entries prefix) ≡ false) }
 {
     let mut places = BTreeMap::new(alloc);
     for (prefix, tree) in prefixes {
-        places.insert(prefix, first_place(alloc, tree)?)?;
+        let _ = places.insert(prefix, first_place(alloc, tree)?)?;
     }
     Ok(places)
 }

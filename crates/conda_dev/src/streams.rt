@@ -23,8 +23,10 @@ pub trait In {
         requires { 1 ≤ max }
         ensures bound { IfOk result (λ taken. length taken.items ≤ max) }
         ensures first { IfOk result (λ taken. left self.old ≡ led_by taken.items (left self.new)) }
-        ensures end { IfOk result (λ taken. taken.items ≡ [] → IfSome (left self.old) (λ bytes. bytes ≡ [])) }
-        ensures err { OnErr result ((lost : List ℕ) × (left self.old ≡ led_by lost (left self.new))) }
+        ensures end { IfOk result (λ taken.
+            taken.items ≡ [] → IfSome (left self.old) (λ bytes. bytes ≡ [])) }
+        ensures err { OnErr result
+            ((lost : List ℕ) × (left self.old ≡ led_by lost (left self.new))) }
         ensures cause { HasDeviceCause (faults self.old) (faults self.new) result };
 }
 
@@ -39,7 +41,8 @@ pub trait Out {
 
     /// Appends all of the bytes. After a failure some first part of them was appended.
     fn put(&mut self, bytes: &[u8]) -> Result<(), Failed>
-        ensures ok { OnOk result ((state self.new).told ≡ appended (state self.old).told bytes.now) }
+        ensures ok { OnOk result
+            ((state self.new).told ≡ appended (state self.old).told bytes.now) }
         ensures err { OnErr result ((n : ℕ)
             × ((state self.new).told ≡ appended (state self.old).told (take n bytes.now))) }
         ensures cause { HasCause (state self.old).faults (state self.new).faults result };
@@ -133,7 +136,10 @@ impl MemOut {
 }
 
 impl Out for MemOut {
-    ghost state = { λ out. record { told = Some out.bytes.items; faults = out.meter.faults.count } };
+    ghost state = { λ out. record {
+      told = Some out.bytes.items;
+      faults = out.meter.faults.count;
+    } };
 
     fn faults(&self) -> u64 {
         self.meter.faults.count

@@ -10,11 +10,3 @@ loop-prefix-preserved c = (
       ∙ ap (λ es. given es (told_in (place_at c.loop-prefix.places.entries q)) q) (sym c.in-Some.ensures.steps.0) ∙ c.loop-prefix.invariant.0 q),
   (λ q. free_step q c.in-Some.prefix c.in_ok-first_place.field-0 (place_at c.loop-prefix.places.entries q) (place_at c.insert.new.self.entries q) (c.in_ok-insert.ensures.updates.0 q) c.in_ok-first_place.ensures.free (c.loop-prefix.invariant.1 q)),
 )
-
-pub loop-prefix-preserved-in_ok-insert : goal.loop-prefix-preserved-in_ok-insert
-loop-prefix-preserved-in_ok-insert c = (
-  (λ q.
-      given_step c.next.new.self.rest.items q c.in-Some.prefix c.in-Some.tree c.in_ok-first_place.field-0 (place_at c.loop-prefix.places.entries q) (place_at c.insert.new.self.entries q) (c.in_ok-insert.ensures.updates.0 q) c.in_ok-first_place.ensures.tree
-      ∙ ap (λ es. given es (told_in (place_at c.loop-prefix.places.entries q)) q) (sym c.in-Some.ensures.steps.0) ∙ c.loop-prefix.invariant.0 q),
-  (λ q. free_step q c.in-Some.prefix c.in_ok-first_place.field-0 (place_at c.loop-prefix.places.entries q) (place_at c.insert.new.self.entries q) (c.in_ok-insert.ensures.updates.0 q) c.in_ok-first_place.ensures.free (c.loop-prefix.invariant.1 q)),
-)
