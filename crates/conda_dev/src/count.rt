@@ -1,7 +1,5 @@
-ghost use Rattle.std.specs.Prelude.{◌≡◌, ◌+◌, ◌-◌, ◌^◌, ◌≤◌, min, sum_by};
+ghost use Rattle.std.specs.Prelude.{◌≡◌, ◌+◌, ◌-◌, ◌^◌, ◌≤◌, min};
 ghost use Rattle.conda_dev.specs.Fault.{Rose};
-
-use crate::lane::Lane;
 
 /// A count of faults. It stands still at the last value of its type.
 #[derive(Debug, Drop)]
@@ -24,16 +22,5 @@ impl FaultCount {
         ensures exact { self.new.count ≡ min (self.old.count + 1) (2 ^ 64 - 1) }
     {
         self.count = self.count.saturating_add(1);
-    }
-
-    /// Adds the counts of lanes. It takes no memory.
-    pub fn add_lanes<L: Lane>(&mut self, lanes: &[L])
-        ensures { self.new.count ≡ min (self.old.count + sum_by L.faults lanes.now) (2 ^ 64 - 1) }
-    {
-        let mut total = self.count;
-        for lane in lanes {
-            total = total.saturating_add(lane.faults());
-        }
-        self.count = total;
     }
 }

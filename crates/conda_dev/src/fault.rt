@@ -18,6 +18,26 @@ pub enum DeviceErr {
     Memory,
 }
 
+impl From<Failed> for DeviceErr {
+    ghost use Rattle.conda_dev.specs.declared.fault.DeviceErr.{DeviceErr};
+
+    ghost from_gives = { λ _ e. e ≡ DeviceErr.Failed };
+
+    fn from(_: Failed) -> DeviceErr {
+        DeviceErr::Failed
+    }
+}
+
+impl From<AllocError> for DeviceErr {
+    ghost use Rattle.conda_dev.specs.declared.fault.DeviceErr.{DeviceErr};
+
+    ghost from_gives = { λ _ e. e ≡ DeviceErr.Memory };
+
+    fn from(_: AllocError) -> DeviceErr {
+        DeviceErr::Memory
+    }
+}
+
 /// Whether a call that is to fail has its effect first.
 #[derive(Clone, Copy, Debug, PartialEq, Eq)]
 pub enum Effect {

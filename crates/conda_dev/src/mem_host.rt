@@ -9,7 +9,7 @@ use crate::host::Host;
 use crate::lane::Lane;
 use crate::mem_lane::MemLane;
 use crate::meter::Meter;
-use crate::place::{Place, first_places, lanes_at, lend, return_lanes, whole_tree};
+use crate::place::{Place, add_faults, first_places, lanes_at, lend, return_lanes, whole_tree};
 use crate::tree::Tree;
 use conda_path::Prefix;
 use std::alloc::{AllocError, Global};
@@ -80,10 +80,7 @@ impl Host for MemHost {
             self.meter.faults.raise();
             return Err(DeviceErr::Failed);
         }
-        match lend(alloc, &mut self.places, &self.fails, prefix, n) {
-            Ok(lanes) => Ok(lanes),
-            Err(_) => Err(DeviceErr::Memory),
-        }
+        Ok(lend(alloc, &mut self.places, &self.fails, prefix, n)?)
     }
 
     fn take_back(&mut self, prefix: &Prefix, lanes: Vec<MemLane>)
@@ -93,7 +90,7 @@ impl Host for MemHost {
             prefix.now lanes.items (⟦<MemHost as Host>⟧.state self.old)
             (⟦<MemHost as Host>⟧.state self.new) }
     {
-        self.lane_faults.add_lanes(&lanes);
+        add_faults(&mut self.lane_faults, &lanes);
         return_lanes(&mut self.places, prefix, lanes);
     }
 }

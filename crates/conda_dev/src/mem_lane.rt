@@ -91,10 +91,7 @@ impl Lane for MemLane {
         let Some(node) = self.tree.get(path) else {
             return Ok(None);
         };
-        match cut(alloc, node, max) {
-            Ok(node) => Ok(Some(node)),
-            Err(_) => Err(DeviceErr::Memory),
-        }
+        Ok(Some(cut(alloc, node, max)?))
     }
 
     ghost share = { λ lane. lane.in_share };

@@ -1,3 +1,4 @@
+ghost use Rattle.std.specs.Prelude.{◌+◌, ◌-◌, ◌^◌, min, sum_by};
 ghost use Rattle.std.specs.Prelude.{◌≡◌, ◌≤◌, ℕ, true, false, List, Some, IfOk, OnOk, OnErr};
 ghost use Rattle.std.specs.FinMap as tree;
 ghost use Rattle.conda_dev.specs.Hosts.{SameOfOthers};
@@ -6,6 +7,7 @@ ghost use Rattle.conda_dev.specs.Memory.{given, lent_in, node_at, place_at, told
 ghost use Rattle.conda_dev.specs.Memory.{faults_of, lanes_of, number_of, trees_of};
 ghost use Rattle.conda_dev.specs.Tree.{in_share, together};
 
+use crate::count::FaultCount;
 use crate::fault::{FailAt, Target, plan_for};
 use crate::mem_lane::MemLane;
 use crate::meter::Meter;
@@ -182,6 +184,18 @@ pub fn return_lanes(places: &mut BTreeMap<Prefix, Place>, prefix: &Prefix, lanes
         place.lent = false;
         place.lanes = lanes;
     }
+}
+
+/// Adds the faults of lanes to a count.
+pub fn add_faults(faults: &mut FaultCount, lanes: &[MemLane])
+    ensures { faults.new.count
+        ≡ min (faults.old.count + sum_by faults_of lanes.now) (2 ^ 64 - 1) }
+{
+    let mut total = faults.count;
+    for lane in lanes {
+        total = total.saturating_add(lane.meter.faults.count);
+    }
+    faults.count = total;
 }
 
 /// A prefix that was never lent.

@@ -88,10 +88,7 @@ impl In for MemIn {
         }
         let rest = rest_of(&self.bytes, self.at);
         let count = rest.len().min(max);
-        let taken = match Vec::from_slice(alloc, &rest[..count]) {
-            Ok(taken) => taken,
-            Err(_) => return Err(DeviceErr::Memory),
-        };
+        let taken = Vec::from_slice(alloc, &rest[..count])?;
         self.at += count;
         if effect == Some(Effect::After) {
             self.meter.faults.raise();

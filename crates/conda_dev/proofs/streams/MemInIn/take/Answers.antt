@@ -10,7 +10,7 @@ taken_first a n xs =
 pub returns-clause-first : goal.returns-clause-first
 returns-clause-first c =
     let split = taken_first c.args.self.now.at c.min-count.result c.args.self.now.bytes.items in
-    let taken = c.in-Ok.ensures.items in
+    let taken = c.in_ok-taken.ensures.items in
     cc
 
 pub returns-then-eq-2-clause-err : goal.returns-then-eq-2-clause-err
