@@ -32,15 +32,15 @@ module _ (rest all left : List (List ℕ × Tree)) (p : List ℕ) (tree : Tree) 
         ap (λ o. given rest o q) (
         ap told_in (put q)
         ∙ elim (is_at (slice_cmp nat_cmp p) q) as (λ b. told_in (cond b (Some place) (place_at old q)) ≡ cond b (Some tree) (told_in (place_at old q))) [
-            | true ↦ its_tree
-            | false ↦ refl
-          ]
+          | true ↦ its_tree
+          | false ↦ refl
+        ]
         ∙ ap (λ b. cond b (Some tree) (told_in (place_at old q))) (same_test p q))
         ∙ ap (λ es. given es (told_in (place_at old q)) q) (sym is) ∙ before.trees q;
     free = λ q.
         ap lent_in (put q)
         ∙ elim (is_at (slice_cmp nat_cmp p) q) as (λ b. lent_in (cond b (Some place) (place_at old q)) ≡ false) [
-            | true ↦ free
-            | false ↦ before.free q
-          ];
+          | true ↦ free
+          | false ↦ before.free q
+        ];
   }

@@ -173,8 +173,7 @@ fn count_calls(calls: &mut [u64], lanes: &[MemLane]) {
 /// Takes a prefix back with its lanes.
 pub fn return_lanes(places: &mut BTreeMap<Prefix, Place>, prefix: &Prefix, lanes: Vec<MemLane>)
     requires { lent_in (place_at places.old.entries prefix.now) ≡ true }
-    ensures tree {
-        told_in (place_at places.new.entries prefix.now) ≡ together (told_of lanes.items) }
+    ensures tree { told_in (place_at places.new.entries prefix.now) ≡ together (told_of lanes.items) }
     ensures free { lent_in (place_at places.new.entries prefix.now) ≡ false }
     ensures others { SameOfOthers prefix.now
         (place_at places.old.entries) (place_at places.new.entries) }

@@ -1,5 +1,5 @@
 -- What the machine's answers come to. This project's own.
-use Rattle.std.specs.Prelude.{◌≡◌, ℕ, ◌+◌, ◌-◌, ◌^◌, min, Bool, true, false, Option, Some, None, Result, Ok, Err, MatchBool}
+use Rattle.std.specs.Prelude.{◌≡◌, ℕ, ◌+◌, ◌-◌, ◌^◌, ◌==◌, if◌then◌else◌, Bool, true, false, Option, Some, None, Result, Ok, Err, MatchBool}
 use Rattle.std.specs.IoError.{error_kind}
 use Rattle.std.specs.declared.io.Error.{Error}
 use Rattle.std.specs.declared.io.ErrorKind.{ErrorKind}
@@ -15,9 +15,9 @@ says_absent NotADirectory = true
 says_absent InvalidFilename = true
 says_absent _ = false
 
--- one more fault, where the count isn't at the last value of its type
+-- one more fault, or the last value of the count's type
 abbrev pub one_more : ℕ → ℕ
-one_more count = min (count + 1) (2 ^ 64 - 1)
+one_more count = if count == 2 ^ 64 - 1 then count else count + 1
 
 -- the count of faults after a call: one more where it failed
 abbrev pub count_after : {T : Type 0} → Result T Failed → ℕ → ℕ
@@ -36,5 +36,5 @@ abbrev pub ComesTo : {T : Type 0} → Result T Error → Result (Option T) Faile
 ComesTo (Ok x) result before now = (result ≡ Ok (Some x)) × (now ≡ before)
 ComesTo (Err error) result before now =
     MatchBool (says_absent (error_kind error))
-        ((result ≡ Ok None) × (now ≡ before))
-        ((result ≡ Err (record {})) × (now ≡ one_more before))
+    ((result ≡ Ok None) × (now ≡ before))
+    ((result ≡ Err (record {})) × (now ≡ one_more before))

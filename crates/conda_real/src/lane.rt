@@ -69,11 +69,7 @@ fn kind_of(data: &Metadata) -> Option<Kind> {
 }
 
 /// What stands at a place.
-fn shown_at(
-    rt: &impl Files,
-    place: &str,
-    faults: &mut FaultCount,
-) -> Result<Option<Seen>, Failed>
+fn shown_at(rt: &impl Files, place: &str, faults: &mut FaultCount) -> Result<Option<Seen>, Failed>
     ensures { faults.new.count ≡ count_after result faults.old.count }
 {
     let Some(data) = answered(fs::symlink_metadata(rt, place), faults)? else {

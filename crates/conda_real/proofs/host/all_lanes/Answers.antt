@@ -6,7 +6,7 @@ use Rattle.conda_real.proofs.host.all_lanes.Goals as goal
 pub loop-number-preserved : goal.loop-number-preserved
 loop-number-preserved g c =
     let more = one_more_lane number_of lanes_of faults_of c.loop-number.number c.args.lanes c.loop-number.made.items c.make.result c.loop-number.invariant c.make.ensures.number c.make.ensures.lanes c.make.ensures.unharmed in
-    subst (LinesUp number_of lanes_of faults_of (c.loop-number.number + 1) c.args.lanes) (sym c.in_ok-push.ensures.items) more
+    rw c.in_ok-push.ensures.items more
 
 pub returns : goal.returns
 returns g c =
