@@ -3,10 +3,14 @@
 
 mod bytes;
 mod copied;
+mod cut;
+mod number;
 mod rows;
 mod text;
 
 pub use bytes::Bytes;
 pub use copied::{Copied, copied_all};
+pub use cut::{cut_first, cut_last, cut_laws};
+pub use number::{digits_u64, number_laws, read_digits, read_number, read_u64};
 pub use rows::Rows;
 pub use text::Text;

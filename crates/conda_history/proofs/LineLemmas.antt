@@ -1,11 +1,10 @@
 -- What a line is read as is what it says, and a line that says something is read as it.
-use Rattle.std.proofs.Common.{◌≡◌, ◌≢◌, ℕ, ◌+◌, ◌/◌, ◌%◌, ◌≤◌, Bool, true, false, ◌||◌, cond, eqb, ltb, List, [], ◌∷◌, ◌++◌, Option, Some, None, refl, sym, ap, ◌∙◌, arith, subst}
+use Rattle.std.proofs.Common.{◌≡◌, ◌≢◌, ◌↔◌, ℕ, ◌+◌, ◌/◌, ◌%◌, ◌≤◌, Bool, true, false, ◌||◌, cond, eqb, ltb, List, [], ◌∷◌, ◌++◌, Option, Some, None, refl, sym, ap, ◌∙◌, arith, subst}
 use Rattle.std.specs.Prelude.{MatchResult, Result, codes, option_map}
 use Rattle.std.specs.List.{All, AllByRecursion}
 use Rattle.std.proofs.lemmas.Bool.{eqb-true, ltb-false, true≢false}
 use Rattle.std.proofs.lemmas.List.Elements.{All-from_recursion}
 use Rattle.conda_path.specs.Dists.{IsDist, is_bad_byte, is_dist}
-use Rattle.conda_path.proofs.DistLemmas.{dist_rule, rule_dist}
 use Rattle.conda_history.specs.declared.line.Line.{Line}
 use Rattle.conda_history.specs.declared.line.Line.TheVariants.{Header, Removed, Added}
 use Rattle.conda_history.specs.declared.revision.HistoryErr.{HistoryErr}
@@ -32,57 +31,58 @@ option_map_some f (Some x) y h = (x, refl, some_same (f x) y h)
     some_same a b g = cc
 option_map_some f None y h = cc
 
-dist_found : (text d : List ℕ) → dist_of text ≡ Some d → (text ≡ d) × IsDist text
-dist_found text d h = by (is_dist text) refl h
-  where
-    by : (v : Bool) → is_dist text ≡ v → cond v (Some text) None ≡ Some d → (text ≡ d) × IsDist text
-    by true e g = (cc, dist_rule text e)
-    by false e g = cc
+-- the test of a dist is its rule
+abbrev pub DistRule : Type 0
+DistRule = (text : List ℕ) → (is_dist text ≡ true) ↔ IsDist text
 
-pub line_found : (text : List ℕ) (l : Line) → line_of text ≡ Some l → (text ≡ line_text l) × IsLine l
-unfolding line_of
-line_found [] l h = cc
-line_found (b ∷ rest) l h = by (eqb b 45) refl (eqb b 43) refl h
-  where
-    Says : Line → Type 0
-    Says l = (b ∷ rest ≡ line_text l) × IsLine l
+module _ (rule : DistRule) where
+  dist_found : (text d : List ℕ) → dist_of text ≡ Some d → (text ≡ d) × IsDist text
+  dist_found text d h = by (is_dist text) refl h
+    where
+      by : (v : Bool) → is_dist text ≡ v → cond v (Some text) None ≡ Some d → (text ≡ d) × IsDist text
+      by true e g = (cc, (rule text).0 e)
+      by false e g = cc
 
-    removed : b ≡ 45 → option_map Removed (dist_of rest) ≡ Some l → Says l
-    removed e g =
-        let m = option_map_some Removed (dist_of rest) l g in
-        let d = dist_found rest m.0 m.1 in
-        subst Says m.2 (ap (λ n. n ∷ rest) e ∙ ap (λ r. 45 ∷ r) d.0, subst IsDist d.0 d.1)
+  pub line_found : (text : List ℕ) (l : Line) → line_of text ≡ Some l → (text ≡ line_text l) × IsLine l
+  unfolding line_of
+  line_found [] l h = cc
+  line_found (b ∷ rest) l h = by (eqb b 45) refl (eqb b 43) refl h
+    where
+      Says : Line → Type 0
+      Says l = (b ∷ rest ≡ line_text l) × IsLine l
 
-    added : b ≡ 43 → option_map Added (dist_of rest) ≡ Some l → Says l
-    added e g =
-        let m = option_map_some Added (dist_of rest) l g in
-        let d = dist_found rest m.0 m.1 in
-        subst Says m.2 (ap (λ n. n ∷ rest) e ∙ ap (λ r. 43 ∷ r) d.0, subst IsDist d.0 d.1)
+      removed : b ≡ 45 → option_map Removed (dist_of rest) ≡ Some l → Says l
+      removed e g =
+          let m = option_map_some Removed (dist_of rest) l g in
+          let d = dist_found rest m.0 m.1 in
+          subst Says m.2 (ap (λ n. n ∷ rest) e ∙ ap (λ r. 45 ∷ r) d.0, subst IsDist d.0 d.1)
 
-    header : option_map Header (stamp_of (b ∷ rest)) ≡ Some l → Says l
-    header g =
-        let m = option_map_some Header (stamp_of (b ∷ rest)) l g in
-        subst Says m.2 (header_found (b ∷ rest) m.0 (short_at (b ∷ rest)) m.1)
+      added : b ≡ 43 → option_map Added (dist_of rest) ≡ Some l → Says l
+      added e g =
+          let m = option_map_some Added (dist_of rest) l g in
+          let d = dist_found rest m.0 m.1 in
+          subst Says m.2 (ap (λ n. n ∷ rest) e ∙ ap (λ r. 43 ∷ r) d.0, subst IsDist d.0 d.1)
 
-    by : (v : Bool) → eqb b 45 ≡ v → (w : Bool) → eqb b 43 ≡ w → cond v (option_map Removed (dist_of rest)) (cond w (option_map Added (dist_of rest)) (option_map Header (stamp_of (b ∷ rest)))) ≡ Some l → Says l
-    by true e w f g = removed (eqb-true b 45 e) g
-    by false e true f g = added (eqb-true b 43 f) g
-    by false e false f g = header g
+      header : option_map Header (stamp_of (b ∷ rest)) ≡ Some l → Says l
+      header g =
+          let m = option_map_some Header (stamp_of (b ∷ rest)) l g in
+          subst Says m.2 (header_found (b ∷ rest) m.0 (short_at (b ∷ rest)) m.1)
 
-dist_read : (d : List ℕ) → IsDist d → dist_of d ≡ Some d
-dist_read d h = rw (rule_dist d h) refl
+      by : (v : Bool) → eqb b 45 ≡ v → (w : Bool) → eqb b 43 ≡ w → cond v (option_map Removed (dist_of rest)) (cond w (option_map Added (dist_of rest)) (option_map Header (stamp_of (b ∷ rest)))) ≡ Some l → Says l
+      by true e w f g = removed (eqb-true b 45 e) g
+      by false e true f g = added (eqb-true b 43 f) g
+      by false e false f g = header g
 
-pub line_read : (l : Line) → IsLine l → line_of (line_text l) ≡ Some l
-unfolding line_of
-line_read (Header s) h = ap (option_map Header) (header_read s h)
-line_read (Removed d) h = ap (option_map Removed) (dist_read d h)
-line_read (Added d) h = ap (option_map Added) (dist_read d h)
+  dist_read : (d : List ℕ) → IsDist d → dist_of d ≡ Some d
+  dist_read d h = rw ((rule d).1 h) refl
+
+  pub line_read : (l : Line) → IsLine l → line_of (line_text l) ≡ Some l
+  unfolding line_of
+  line_read (Header s) h = ap (option_map Header) (header_read s h)
+  line_read (Removed d) h = ap (option_map Removed) (dist_read d h)
+  line_read (Added d) h = ap (option_map Added) (dist_read d h)
 
 -- ---- no line holds a newline
-
-or_false : (a b : Bool) → a || b ≡ false → (a ≡ false) × (b ≡ false)
-or_false true b h = absurd (true≢false h)
-or_false false b h = (refl, h)
 
 above : (b : ℕ) → 32 ≤ b → is_newline b ≡ false
 above b h = by (eqb b 10) refl
@@ -92,11 +92,11 @@ above b h = by (eqb b 10) refl
     by false e = refl
 
 good_byte : (b : ℕ) → is_bad_byte b ≡ false → is_newline b ≡ false
-good_byte b h =
-    let a = or_false (ltb b 33 || eqb b 127 || eqb b 47) (eqb b 58) h in
-    let c = or_false (ltb b 33 || eqb b 127) (eqb b 47) a.0 in
-    let d = or_false (ltb b 33) (eqb b 127) c.0 in
-    above b (omega (arith, ltb-false b 33 d.0))
+good_byte b h = by (eqb b 10) refl
+  where
+    by : (v : Bool) → eqb b 10 ≡ v → v ≡ false
+    by true e = absurd (true≢false (sym (ap is_bad_byte (eqb-true b 10 e)) ∙ h))
+    by false e = refl
 
 dist_plain : (d : List ℕ) → AllByRecursion (λ b. is_bad_byte b ≡ false) d → AllByRecursion (λ b. is_newline b ≡ false) d
 dist_plain [] h = tt

@@ -9,6 +9,7 @@ use Rattle.std.proofs.lemmas.List.Elements.{All-from_get_or}
 use Rattle.std.proofs.lemmas.List.Sums.{fails_before_first}
 use Rattle.std.proofs.lemmas.List.Splits.{join_with_byte-slice_split, slice_split_first, slice_split_none, slice_split-cons_no, slice_split-cons_yes, slice_split_at}
 use Rattle.std.proofs.lemmas.Bool.{false≢true}
+use Rattle.conda_base.specs.Texts.{is_empty}
 use Rattle.conda_path.specs.Dists.{IsDist}
 use Rattle.conda_history.specs.declared.line.Line.{Line}
 use Rattle.conda_history.specs.declared.line.Line.TheVariants.{Header, Removed, Added}
@@ -19,8 +20,8 @@ use Rattle.conda_history.specs.declared.revision.HistoryErr.TheVariants.{BadHist
 use Rattle.conda_history.specs.declared.stamp.Stamp.{Stamp}
 use Rattle.conda_history.specs.Stamps.{Exists, header_text}
 use Rattle.conda_history.specs.Blocks.{IsBlock, IsHistory, added_line, block_text, history_text, removed_line}
-use Rattle.conda_history.specs.Reading.{Fails, IsAtLine, blocks_of, closed, finished, history_of, is_empty, is_newline, line_of, new_block, read_pieces, start, step, step_line, with_added, with_removed}
-use Rattle.conda_history.proofs.LineLemmas.{IsLine, line_found, line_read, line_text, no_newline}
+use Rattle.conda_history.specs.Reading.{Fails, IsAtLine, blocks_of, closed, finished, history_of, is_newline, line_of, new_block, read_pieces, start, step, step_line, with_added, with_removed}
+use Rattle.conda_history.proofs.LineLemmas.{DistRule, IsLine, line_found, line_read, line_text, no_newline}
 
 some_same : {X : Type 0} (a b : X) → Some a ≡ Some b → a ≡ b
 some_same a b h = cc
@@ -144,35 +145,6 @@ option_and_then_some : {X Y : Type 0} (f : X → Option Y) (o : Option X) (y : Y
 option_and_then_some f (Some x) y h = (x, refl, h)
 option_and_then_some f None y h = cc
 
-found_pieces : (m : Made) (pieces : List (List ℕ)) (bs : List Block) → AllByRecursion IsBlock (Blocks m) → read_pieces m pieces ≡ Some bs → (history_text bs ≡ history_text (Blocks m) ++ join_with_byte 10 pieces) × AllByRecursion IsBlock bs
-unfolding read_pieces
-found_pieces m [] bs g h = cc
-found_pieces m (piece ∷ []) bs g h = by (is_empty piece) refl h
-  where
-    by : (v : Bool) → is_empty piece ≡ v → cond v (Some (Blocks m)) None ≡ Some bs → (history_text bs ≡ history_text (Blocks m) ++ piece) × AllByRecursion IsBlock bs
-    by true e k =
-        let same : Blocks m ≡ bs = some_same (Blocks m) bs k in
-        (ap history_text (sym same) ∙ sym (append-nil (history_text (Blocks m))) ∙ ap (λ p. history_text (Blocks m) ++ p) (sym (is_empty_of piece e)), subst (AllByRecursion IsBlock) same g)
-    by false e k = cc
-found_pieces m (piece ∷ next ∷ more) bs g h =
-    let outer = option_and_then_some (λ n. read_pieces n (next ∷ more)) (step_line m piece) bs h in
-    let inner = option_and_then_some (λ l. step m l) (line_of piece) outer.0 outer.1 in
-    let line = line_found piece inner.0 inner.1 in
-    let grew = grows m outer.0 inner.0 inner.2 line.1 g in
-    let rest = found_pieces outer.0 (next ∷ more) bs grew.blocks outer.2 in
-    (rest.0 ∙ ap (λ t. t ++ join_with_byte 10 (next ∷ more)) (grew.text ∙ ap (λ t. history_text (Blocks m) ++ (t ++ 10 ∷ [])) (sym line.0)) ∙ regroup (history_text (Blocks m)) piece (join_with_byte 10 (next ∷ more)), rest.1)
-  where
-    regroup : (a p r : List ℕ) → (a ++ (p ++ 10 ∷ [])) ++ r ≡ a ++ (p ++ 10 ∷ r)
-    regroup a p r = append_assoc a (p ++ 10 ∷ []) r ∙ ap (λ x. a ++ x) (append_assoc p (10 ∷ []) r)
-
--- what is read as blocks is the text of them
-pub blocks_found : (text : List ℕ) (bs : List Block) → blocks_of text ≡ Some bs → (text ≡ history_text bs) × AllByRecursion IsBlock bs
-blocks_found text bs h =
-    let f = found_pieces start (slice_split is_newline text) bs tt h in
-    (sym (join_with_byte-slice_split 10 text) ∙ sym f.0, f.1)
-
--- ---- the text of blocks is read as them
-
 split_some : (text : List ℕ) → (piece : List ℕ) × (more : List (List ℕ)) × (slice_split is_newline text ≡ piece ∷ more)
 split_some [] = ([], [], refl)
 split_some (b ∷ rest) = by (is_newline b) refl (split_some rest)
@@ -181,83 +153,112 @@ split_some (b ∷ rest) = by (is_newline b) refl (split_some rest)
     by true e s = ([], slice_split is_newline rest, slice_split-cons_yes is_newline b rest e)
     by false e s = (b ∷ s.0, s.1, slice_split-cons_no is_newline b rest e ∙ ap (onto_first b) s.2)
 
-one_line : (m new : Made) (l : Line) (rest : List ℕ) → IsLine l → step m l ≡ Some new → read_pieces m (slice_split is_newline (line_text l ++ 10 ∷ rest)) ≡ read_pieces new (slice_split is_newline rest)
-unfolding read_pieces
-one_line m new l rest i h =
-    let cut = slice_split_at is_newline (line_text l) 10 rest (no_newline l i) refl in
-    let s = split_some rest in
-    let said : step_line m (line_text l) ≡ Some new = ap (option_and_then (λ k. step m k)) (line_read l i) ∙ h in
-    rw (cut, s.2) (ap (option_and_then (λ n. read_pieces n (s.0 ∷ s.1))) said)
+module _ (rule : DistRule) where
+  found_pieces : (m : Made) (pieces : List (List ℕ)) (bs : List Block) → AllByRecursion IsBlock (Blocks m) → read_pieces m pieces ≡ Some bs → (history_text bs ≡ history_text (Blocks m) ++ join_with_byte 10 pieces) × AllByRecursion IsBlock bs
+  unfolding read_pieces
+  found_pieces m [] bs g h = cc
+  found_pieces m (piece ∷ []) bs g h = by (is_empty piece) refl h
+    where
+      by : (v : Bool) → is_empty piece ≡ v → cond v (Some (Blocks m)) None ≡ Some bs → (history_text bs ≡ history_text (Blocks m) ++ piece) × AllByRecursion IsBlock bs
+      by true e k =
+          let same : Blocks m ≡ bs = some_same (Blocks m) bs k in
+          (ap history_text (sym same) ∙ sym (append-nil (history_text (Blocks m))) ∙ ap (λ p. history_text (Blocks m) ++ p) (sym (is_empty_of piece e)), subst (AllByRecursion IsBlock) same g)
+      by false e k = cc
+  found_pieces m (piece ∷ next ∷ more) bs g h =
+      let outer = option_and_then_some (λ n. read_pieces n (next ∷ more)) (step_line m piece) bs h in
+      let inner = option_and_then_some (λ l. step m l) (line_of piece) outer.0 outer.1 in
+      let line = line_found rule piece inner.0 inner.1 in
+      let grew = grows m outer.0 inner.0 inner.2 line.1 g in
+      let rest = found_pieces outer.0 (next ∷ more) bs grew.blocks outer.2 in
+      (rest.0 ∙ ap (λ t. t ++ join_with_byte 10 (next ∷ more)) (grew.text ∙ ap (λ t. history_text (Blocks m) ++ (t ++ 10 ∷ [])) (sym line.0)) ∙ regroup (history_text (Blocks m)) piece (join_with_byte 10 (next ∷ more)), rest.1)
+    where
+      regroup : (a p r : List ℕ) → (a ++ (p ++ 10 ∷ [])) ++ r ≡ a ++ (p ++ 10 ∷ r)
+      regroup a p r = append_assoc a (p ++ 10 ∷ []) r ∙ ap (λ x. a ++ x) (append_assoc p (10 ∷ []) r)
 
-added_lines : (done : List Block) (b : Block) (ds : List (List ℕ)) (rest : List ℕ) → AllByRecursion IsDist ds → read_pieces (made done (Some b)) (slice_split is_newline (flat_map added_line ds ++ rest)) ≡ read_pieces (made done (Some (record b { added = b.added ++ ds }))) (slice_split is_newline rest)
-unfolding step
-added_lines done b [] rest i = ap (λ a. read_pieces (made done (Some (record b { added = a }))) (slice_split is_newline rest)) (sym (append-nil b.added))
-added_lines done b (d ∷ ds) rest i =
-    let c = record b { added = b.added ++ d ∷ [] } in
-    let text : flat_map added_line (d ∷ ds) ++ rest ≡ (43 ∷ d) ++ 10 ∷ (flat_map added_line ds ++ rest) = regroup d (flat_map added_line ds) rest in
-    let first = one_line (made done (Some b)) (made done (Some c)) (Added d) (flat_map added_line ds ++ rest) i.0 refl in
-    ap (λ t. read_pieces (made done (Some b)) (slice_split is_newline t)) text ∙ first ∙ added_lines done c ds rest i.1
-    ∙ ap (λ a. read_pieces (made done (Some (record b { added = a }))) (slice_split is_newline rest)) (append_assoc b.added (d ∷ []) ds)
-  where
-    regroup : (x y z : List ℕ) → (43 ∷ (x ++ 10 ∷ []) ++ y) ++ z ≡ 43 ∷ x ++ 10 ∷ (y ++ z)
-    regroup x y z = append_assoc (43 ∷ (x ++ 10 ∷ [])) y z ∙ append_assoc (43 ∷ x) (10 ∷ []) (y ++ z)
+  -- what is read as blocks is the text of them
+  pub blocks_found : (text : List ℕ) (bs : List Block) → blocks_of text ≡ Some bs → (text ≡ history_text bs) × AllByRecursion IsBlock bs
+  blocks_found text bs h =
+      let f = found_pieces start (slice_split is_newline text) bs tt h in
+      (sym (join_with_byte-slice_split 10 text) ∙ sym f.0, f.1)
 
-removed_lines : (done : List Block) (b : Block) (ds : List (List ℕ)) (rest : List ℕ) → b.added ≡ [] → AllByRecursion IsDist ds → read_pieces (made done (Some b)) (slice_split is_newline (flat_map removed_line ds ++ rest)) ≡ read_pieces (made done (Some (record b { removed = b.removed ++ ds }))) (slice_split is_newline rest)
-unfolding step
-removed_lines done b [] rest e i = ap (λ a. read_pieces (made done (Some (record b { removed = a }))) (slice_split is_newline rest)) (sym (append-nil b.removed))
-removed_lines done b (d ∷ ds) rest e i =
-    let c = record b { removed = b.removed ++ d ∷ [] } in
-    let text : flat_map removed_line (d ∷ ds) ++ rest ≡ (45 ∷ d) ++ 10 ∷ (flat_map removed_line ds ++ rest) = regroup d (flat_map removed_line ds) rest in
-    let said : step (made done (Some b)) (Removed d) ≡ Some (made done (Some c)) = rw e refl in
-    let first = one_line (made done (Some b)) (made done (Some c)) (Removed d) (flat_map removed_line ds ++ rest) i.0 said in
-    ap (λ t. read_pieces (made done (Some b)) (slice_split is_newline t)) text ∙ first ∙ removed_lines done c ds rest e i.1
-    ∙ ap (λ a. read_pieces (made done (Some (record b { removed = a }))) (slice_split is_newline rest)) (append_assoc b.removed (d ∷ []) ds)
-  where
-    regroup : (x y z : List ℕ) → (45 ∷ (x ++ 10 ∷ []) ++ y) ++ z ≡ 45 ∷ x ++ 10 ∷ (y ++ z)
-    regroup x y z = append_assoc (45 ∷ (x ++ 10 ∷ [])) y z ∙ append_assoc (45 ∷ x) (10 ∷ []) (y ++ z)
+  one_line : (m new : Made) (l : Line) (rest : List ℕ) → IsLine l → step m l ≡ Some new → read_pieces m (slice_split is_newline (line_text l ++ 10 ∷ rest)) ≡ read_pieces new (slice_split is_newline rest)
+  unfolding read_pieces
+  one_line m new l rest i h =
+      let cut = slice_split_at is_newline (line_text l) 10 rest (no_newline l i) refl in
+      let s = split_some rest in
+      let said : step_line m (line_text l) ≡ Some new = ap (option_and_then (λ k. step m k)) (line_read rule l i) ∙ h in
+      rw (cut, s.2) (ap (option_and_then (λ n. read_pieces n (s.0 ∷ s.1))) said)
 
-block_read : (m : Made) (b : Block) (rest : List ℕ) → IsBlock b → read_pieces m (slice_split is_newline (block_text b ++ rest)) ≡ read_pieces (made (Blocks m) (Some b)) (slice_split is_newline rest)
-unfolding step
-block_read m b rest i =
-    let r = flat_map removed_line b.removed in
-    let a = flat_map added_line b.added in
-    let empty = new_block b.stamp in
-    let half = record empty { removed = b.removed } in
-    let first = one_line m (made (Blocks m) (Some empty)) (Header b.stamp) (r ++ (a ++ rest)) i.stamp refl in
-    let second = removed_lines (Blocks m) empty b.removed (a ++ rest) refl i.removed in
-    let third = added_lines (Blocks m) half b.added rest i.added in
-    ap (λ t. read_pieces m (slice_split is_newline t)) (regroup (header_text b.stamp) r a rest) ∙ first ∙ second ∙ third
-    ∙ ap (λ w. read_pieces (made (Blocks m) (Some (record b { whole = w }))) (slice_split is_newline rest)) (sym i.signed)
-  where
-    regroup : (h r a z : List ℕ) → (h ++ 10 ∷ (r ++ a)) ++ z ≡ h ++ 10 ∷ (r ++ (a ++ z))
-    regroup h r a z = append_assoc h (10 ∷ (r ++ a)) z ∙ ap (λ x. h ++ 10 ∷ x) (append_assoc r a z)
+  added_lines : (done : List Block) (b : Block) (ds : List (List ℕ)) (rest : List ℕ) → AllByRecursion IsDist ds → read_pieces (made done (Some b)) (slice_split is_newline (flat_map added_line ds ++ rest)) ≡ read_pieces (made done (Some (record b { added = b.added ++ ds }))) (slice_split is_newline rest)
+  unfolding step
+  added_lines done b [] rest i = ap (λ a. read_pieces (made done (Some (record b { added = a }))) (slice_split is_newline rest)) (sym (append-nil b.added))
+  added_lines done b (d ∷ ds) rest i =
+      let c = record b { added = b.added ++ d ∷ [] } in
+      let text : flat_map added_line (d ∷ ds) ++ rest ≡ (43 ∷ d) ++ 10 ∷ (flat_map added_line ds ++ rest) = regroup d (flat_map added_line ds) rest in
+      let first = one_line (made done (Some b)) (made done (Some c)) (Added d) (flat_map added_line ds ++ rest) i.0 refl in
+      ap (λ t. read_pieces (made done (Some b)) (slice_split is_newline t)) text ∙ first ∙ added_lines done c ds rest i.1
+      ∙ ap (λ a. read_pieces (made done (Some (record b { added = a }))) (slice_split is_newline rest)) (append_assoc b.added (d ∷ []) ds)
+    where
+      regroup : (x y z : List ℕ) → (43 ∷ (x ++ 10 ∷ []) ++ y) ++ z ≡ 43 ∷ x ++ 10 ∷ (y ++ z)
+      regroup x y z = append_assoc (43 ∷ (x ++ 10 ∷ [])) y z ∙ append_assoc (43 ∷ x) (10 ∷ []) (y ++ z)
 
-read_blocks : (m : Made) (bs : List Block) → AllByRecursion IsBlock bs → read_pieces m (slice_split is_newline (history_text bs)) ≡ Some (Blocks m ++ bs)
-unfolding read_pieces
-read_blocks m [] i = ap Some (sym (append-nil (Blocks m)))
-read_blocks m (b ∷ bs) i =
-    block_read m b (history_text bs) i.0 ∙ read_blocks (made (Blocks m) (Some b)) bs i.1 ∙ ap Some (append_assoc (Blocks m) (b ∷ []) bs)
+  removed_lines : (done : List Block) (b : Block) (ds : List (List ℕ)) (rest : List ℕ) → b.added ≡ [] → AllByRecursion IsDist ds → read_pieces (made done (Some b)) (slice_split is_newline (flat_map removed_line ds ++ rest)) ≡ read_pieces (made done (Some (record b { removed = b.removed ++ ds }))) (slice_split is_newline rest)
+  unfolding step
+  removed_lines done b [] rest e i = ap (λ a. read_pieces (made done (Some (record b { removed = a }))) (slice_split is_newline rest)) (sym (append-nil b.removed))
+  removed_lines done b (d ∷ ds) rest e i =
+      let c = record b { removed = b.removed ++ d ∷ [] } in
+      let text : flat_map removed_line (d ∷ ds) ++ rest ≡ (45 ∷ d) ++ 10 ∷ (flat_map removed_line ds ++ rest) = regroup d (flat_map removed_line ds) rest in
+      let said : step (made done (Some b)) (Removed d) ≡ Some (made done (Some c)) = rw e refl in
+      let first = one_line (made done (Some b)) (made done (Some c)) (Removed d) (flat_map removed_line ds ++ rest) i.0 said in
+      ap (λ t. read_pieces (made done (Some b)) (slice_split is_newline t)) text ∙ first ∙ removed_lines done c ds rest e i.1
+      ∙ ap (λ a. read_pieces (made done (Some (record b { removed = a }))) (slice_split is_newline rest)) (append_assoc b.removed (d ∷ []) ds)
+    where
+      regroup : (x y z : List ℕ) → (45 ∷ (x ++ 10 ∷ []) ++ y) ++ z ≡ 45 ∷ x ++ 10 ∷ (y ++ z)
+      regroup x y z = append_assoc (45 ∷ (x ++ 10 ∷ [])) y z ∙ append_assoc (45 ∷ x) (10 ∷ []) (y ++ z)
 
--- the text of blocks is read as them
-pub blocks_read : (bs : List Block) → AllByRecursion IsBlock bs → blocks_of (history_text bs) ≡ Some bs
-blocks_read bs i = read_blocks start bs i
+  block_read : (m : Made) (b : Block) (rest : List ℕ) → IsBlock b → read_pieces m (slice_split is_newline (block_text b ++ rest)) ≡ read_pieces (made (Blocks m) (Some b)) (slice_split is_newline rest)
+  unfolding step
+  block_read m b rest i =
+      let r = flat_map removed_line b.removed in
+      let a = flat_map added_line b.added in
+      let empty = new_block b.stamp in
+      let half = record empty { removed = b.removed } in
+      let first = one_line m (made (Blocks m) (Some empty)) (Header b.stamp) (r ++ (a ++ rest)) i.stamp refl in
+      let second = removed_lines (Blocks m) empty b.removed (a ++ rest) refl i.removed in
+      let third = added_lines (Blocks m) half b.added rest i.added in
+      ap (λ t. read_pieces m (slice_split is_newline t)) (regroup (header_text b.stamp) r a rest) ∙ first ∙ second ∙ third
+      ∙ ap (λ w. read_pieces (made (Blocks m) (Some (record b { whole = w }))) (slice_split is_newline rest)) (sym i.signed)
+    where
+      regroup : (h r a z : List ℕ) → (h ++ 10 ∷ (r ++ a)) ++ z ≡ h ++ 10 ∷ (r ++ (a ++ z))
+      regroup h r a z = append_assoc h (10 ∷ (r ++ a)) z ∙ ap (λ x. h ++ 10 ∷ x) (append_assoc r a z)
 
--- ---- what the reader promises
+  read_blocks : (m : Made) (bs : List Block) → AllByRecursion IsBlock bs → read_pieces m (slice_split is_newline (history_text bs)) ≡ Some (Blocks m ++ bs)
+  unfolding read_pieces
+  read_blocks m [] i = ap Some (sym (append-nil (Blocks m)))
+  read_blocks m (b ∷ bs) i =
+      block_read m b (history_text bs) i.0 ∙ read_blocks (made (Blocks m) (Some b)) bs i.1 ∙ ap Some (append_assoc (Blocks m) (b ∷ []) bs)
 
-pub found : (bytes text : List ℕ) (bs : List Block) → text ≡ bytes → IsUtf8 bytes → blocks_of text ≡ Some bs → IsHistory bytes bs
-found bytes text bs e u h =
-    let r = blocks_found text bs h in
-    record { utf8 = u; text = sym e ∙ r.0; blocks_are = r.1 }
+  -- the text of blocks is read as them
+  pub blocks_read : (bs : List Block) → AllByRecursion IsBlock bs → blocks_of (history_text bs) ≡ Some bs
+  blocks_read bs i = read_blocks start bs i
 
-read_as : (bytes text : List ℕ) (blocks : List Block) → text ≡ bytes → IsHistory bytes blocks → blocks_of text ≡ Some blocks
-read_as bytes text blocks e i = ap blocks_of (e ∙ i.text) ∙ blocks_read blocks i.blocks_are
+  pub found : (bytes text : List ℕ) (bs : List Block) → text ≡ bytes → IsUtf8 bytes → blocks_of text ≡ Some bs → IsHistory bytes bs
+  found bytes text bs e u h =
+      let r = blocks_found text bs h in
+      record { utf8 = u; text = sym e ∙ r.0; blocks_are = r.1 }
 
-pub only_these : (bytes text : List ℕ) (bs : List Block) → text ≡ bytes → blocks_of text ≡ Some bs → (blocks : List Block) → IsHistory bytes blocks → bs ≡ blocks
-only_these bytes text bs e h blocks i = some_same bs blocks (sym h ∙ read_as bytes text blocks e i)
+  read_as : (bytes text : List ℕ) (blocks : List Block) → text ≡ bytes → IsHistory bytes blocks → blocks_of text ≡ Some blocks
+  read_as bytes text blocks e i = ap blocks_of (e ∙ i.text) ∙ blocks_read blocks i.blocks_are
 
-pub only_memory : (bytes text : List ℕ) (e : HistoryErr) → text ≡ bytes → Fails e (blocks_of text) → (blocks : List Block) → IsHistory bytes blocks → e ≡ Memory
-only_memory bytes text (BadHistory line) q f blocks i = absurd (let a : None ≡ Some blocks = sym f.1 ∙ read_as bytes text blocks q i in cc)
-only_memory bytes text Memory q f blocks i = refl
+  pub only_these : (bytes text : List ℕ) (bs : List Block) → text ≡ bytes → blocks_of text ≡ Some bs → (blocks : List Block) → IsHistory bytes blocks → bs ≡ blocks
+  only_these bytes text bs e h blocks i = some_same bs blocks (sym h ∙ read_as bytes text blocks e i)
+
+  pub only_memory : (bytes text : List ℕ) (e : HistoryErr) → text ≡ bytes → Fails e (blocks_of text) → (blocks : List Block) → IsHistory bytes blocks → e ≡ Memory
+  only_memory bytes text (BadHistory line) q f blocks i = absurd (let a : None ≡ Some blocks = sym f.1 ∙ read_as bytes text blocks q i in cc)
+  only_memory bytes text Memory q f blocks i = refl
+
+  pub one_history : (bytes : List ℕ) (first second : List Block) → IsHistory bytes first → IsHistory bytes second → first ≡ second
+  one_history bytes first second a b = some_same first second (sym (read_as bytes bytes first refl a) ∙ read_as bytes bytes second refl b)
 
 pub first_line : (o : Option (List Block)) (e : HistoryErr) → Fails e o → IsAtLine e 1
 first_line o (BadHistory line) f = f.0

@@ -1,20 +1,21 @@
 -- The text of a history, as this project writes it; its lines are those of conda's history.py.
 use Rattle.std.specs.Prelude.{◌≡◌, ℕ, false, List, [], ◌∷◌, ◌++◌, IsUtf8}
 use Rattle.std.specs.List.{AllByRecursion, flat_map}
+use Rattle.conda_base.specs.Signs.{dash, newline, plus}
 use Rattle.conda_path.specs.Dists.{IsDist}
 use Rattle.conda_history.specs.declared.revision.Block.{Block}
 use Rattle.conda_history.specs.Stamps.{Exists, header_text}
 
 -- `-dist` and `+dist`, with the newline
 abbrev pub removed_line : List ℕ → List ℕ
-removed_line dist = 45 ∷ (dist ++ 10 ∷ [])
+removed_line dist = dash ∷ (dist ++ newline ∷ [])
 
 abbrev pub added_line : List ℕ → List ℕ
-added_line dist = 43 ∷ (dist ++ 10 ∷ [])
+added_line dist = plus ∷ (dist ++ newline ∷ [])
 
 -- a header line, then the removed dists, then the added ones
 abbrev pub block_text : Block → List ℕ
-block_text b = header_text b.stamp ++ 10 ∷ (flat_map removed_line b.removed ++ flat_map added_line b.added)
+block_text b = header_text b.stamp ++ newline ∷ (flat_map removed_line b.removed ++ flat_map added_line b.added)
 
 abbrev pub history_text : List Block → List ℕ
 history_text blocks = flat_map block_text blocks

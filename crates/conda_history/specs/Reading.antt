@@ -2,6 +2,8 @@
 use Rattle.std.specs.Prelude.{◌≡◌, ℕ, Bool, true, false, ◌==◌, if◌then◌else◌, List, [], ◌∷◌, ◌++◌, Option, Some, None, option_map, option_and_then}
 use Rattle.std.specs.List.{slice_split}
 use Rattle.std.specs.Str.{is_utf8}
+use Rattle.conda_base.specs.Signs.{dash, newline, plus}
+use Rattle.conda_base.specs.Texts.{is_empty}
 use Rattle.conda_path.specs.Dists.{is_dist}
 use Rattle.conda_history.specs.declared.line.Line.{Line}
 use Rattle.conda_history.specs.declared.line.Line.TheVariants.{Header, Removed, Added}
@@ -38,14 +40,10 @@ header_of text = option_map Header (stamp_of text)
 -- what a line says
 unfoldable pub line_of : List ℕ → Option Line
 line_of [] = None
-line_of (b ∷ rest) = if b == 45 then removed_of rest else (if b == 43 then added_of rest else header_of (b ∷ rest))
+line_of (b ∷ rest) = if b == dash then removed_of rest else (if b == plus then added_of rest else header_of (b ∷ rest))
 
 abbrev pub new_block : Stamp → Block
 new_block stamp = record { stamp = stamp; removed = []; added = []; whole = false }
-
-abbrev pub is_empty : {X : Type 0} → List X → Bool
-is_empty [] = true
-is_empty (x ∷ xs) = false
 
 -- a block with one more removed dist, which none of the added ones stands before
 abbrev pub removed_too : Block → List ℕ → Option (Option Block)
@@ -85,7 +83,7 @@ read_pieces made (piece ∷ []) = finished made piece
 read_pieces made (piece ∷ next ∷ more) = option_and_then (λ m. read_pieces m (next ∷ more)) (step_line made piece)
 
 abbrev pub is_newline : ℕ → Bool
-is_newline b = b == 10
+is_newline b = b == newline
 
 abbrev pub start : Made
 start = record { done = []; current = None }

@@ -2,6 +2,7 @@
 use Rattle.std.specs.Prelude.{ℕ, ◌+◌, ◌*◌, ◌-◌, ◌/◌, ◌%◌, ◌≤◌, Bool, ◌&&◌, nat_le, nat_eq, if◌then◌else◌, List, [], ◌∷◌, ◌++◌, codes, Option, Some, None, pos, slice_index}
 use Rattle.std.specs.Char.{is_ascii_digit}
 use Rattle.std.specs.Cmp.Lexicographic.{pointwise}
+use Rattle.conda_base.specs.Signs.{colon, dash, digit_zero, space}
 use Rattle.jiff_core.specs.Calendar.{IsDate, days_in_month}
 use Rattle.jiff_core.specs.Time.{IsTime}
 use Rattle.conda_history.specs.declared.stamp.Stamp.{Stamp}
@@ -10,19 +11,19 @@ use Rattle.conda_history.specs.declared.stamp.Stamp.{Stamp}
 
 -- a number below 100 in two digits
 abbrev pub two_digits : ℕ → List ℕ
-two_digits n = (48 + n / 10) ∷ (48 + n % 10) ∷ []
+two_digits n = (digit_zero + n / 10) ∷ (digit_zero + n % 10) ∷ []
 
 -- `YYYY-MM-DD`
 abbrev pub date_text : Stamp → List ℕ
-date_text s = two_digits (s.year / 100) ++ (two_digits (s.year % 100) ++ 45 ∷ (two_digits s.month ++ 45 ∷ two_digits s.day))
+date_text s = two_digits (s.year / 100) ++ (two_digits (s.year % 100) ++ dash ∷ (two_digits s.month ++ dash ∷ two_digits s.day))
 
 -- `HH:MM:SS`
 abbrev pub time_text : Stamp → List ℕ
-time_text s = two_digits s.hour ++ 58 ∷ (two_digits s.minute ++ 58 ∷ two_digits s.second)
+time_text s = two_digits s.hour ++ colon ∷ (two_digits s.minute ++ colon ∷ two_digits s.second)
 
 -- `==> YYYY-MM-DD HH:MM:SS <==`
 abbrev pub header_text : Stamp → List ℕ
-header_text s = codes "==> " ++ (date_text s ++ 32 ∷ (time_text s ++ codes " <=="))
+header_text s = codes "==> " ++ (date_text s ++ space ∷ (time_text s ++ codes " <=="))
 
 -- the calendar of ISO 8601 has the date, in the years 0 to 9999, and the clock has the time; no minute has a second 60
 pub record Exists (s : Stamp) : Type 0 where
@@ -42,7 +43,7 @@ pub record IsShort (s : Stamp) : Type 0 where
 
 -- the digit at an offset, or 0 where none stands there
 abbrev pub digit_at : List ℕ → ℕ → ℕ
-digit_at line at = if is_ascii_digit (slice_index line at) then slice_index line at - 48 else 0
+digit_at line at = if is_ascii_digit (slice_index line at) then slice_index line at - digit_zero else 0
 
 abbrev pub two_at : List ℕ → ℕ → ℕ
 two_at line at = digit_at line at * 10 + digit_at line (at + 1)

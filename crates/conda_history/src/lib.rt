@@ -7,8 +7,6 @@ mod replay;
 mod revision;
 mod stamp;
 
+pub use read::history_laws;
 pub use revision::{Block, History, HistoryErr};
 pub use stamp::Stamp;
-
-#[cfg(test)]
-mod tests;

@@ -1,4 +1,5 @@
 ghost use Rattle.std.specs.Prelude.{◌≡◌, ◌≢◌, ◌∷◌, List, MatchOption, MatchResult, Some, ℕ};
+ghost use Rattle.conda_base.specs.Signs.{dash, plus};
 ghost use Rattle.conda_history.specs.Reading as reading;
 
 use crate::revision::HistoryErr;
@@ -30,14 +31,14 @@ fn read_dist(alloc: Global, text: &str) -> Result<Dist, HistoryErr>
 
 /// What stands behind a `-` at the front.
 fn behind_minus(text: &str) -> Option<&str>
-    ensures { MatchOption result ((rest : List ℕ) → text.now ≢ 45 ∷ rest) (λ rest. text.now ≡ 45 ∷ rest.now) }
+    ensures { MatchOption result ((rest : List ℕ) → text.now ≢ dash ∷ rest) (λ rest. text.now ≡ dash ∷ rest.now) }
 {
     text.strip_prefix('-')
 }
 
 /// What stands behind a `+` at the front.
 fn behind_plus(text: &str) -> Option<&str>
-    ensures { MatchOption result ((rest : List ℕ) → text.now ≢ 43 ∷ rest) (λ rest. text.now ≡ 43 ∷ rest.now) }
+    ensures { MatchOption result ((rest : List ℕ) → text.now ≢ plus ∷ rest) (λ rest. text.now ≡ plus ∷ rest.now) }
 {
     text.strip_prefix('+')
 }

@@ -1,4 +1,4 @@
-ghost use Rattle.std.specs.Prelude.{◌≡◌, ◌<◌, [], ◌∷◌, IfErr, IfOk, IfSome, IsUtf8, List, MatchOption, MatchResult, Some, length};
+ghost use Rattle.std.specs.Prelude.{◌≡◌, ◌<◌, [], ◌∷◌, IfErr, IfOk, IfSome, IsUtf8, List, ℕ, MatchOption, MatchResult, Some, length};
 ghost use Rattle.std.specs.List.{slice_split};
 ghost use Rattle.conda_history.specs.Blocks.{IsHistory};
 ghost use Rattle.conda_history.specs.Reading as reading;
@@ -8,7 +8,7 @@ use crate::line::{BAD, Line, read_line};
 use crate::revision::{Block, History, HistoryErr};
 use crate::stamp::Stamp;
 use conda_base::Rows;
-use conda_path::Dist;
+use conda_path::{Dist, dist_laws};
 use std::alloc::{AllocError, Global};
 
 /// The blocks so far: those that are closed, and the one that lines are put into.
@@ -171,6 +171,7 @@ impl History {
         ensures line { IfErr result (λ e. reading.IsAtLine e 1) }
         ensures exact { MatchResult result (λ history. reading.history_of bytes.now ≡ Some history.blocks) (λ e. reading.Fails e (reading.history_of bytes.now)) }
     {
+        dist_laws();
         let Some(text) = text_of(bytes) else {
             return Err(BAD);
         };
@@ -179,4 +180,11 @@ impl History {
             Err(e) => Err(e),
         }
     }
+}
+
+/// Bytes are the text of one history at most.
+pub fn history_laws()
+    ensures one { (bytes : List ℕ) (first second : List Block) → IsHistory bytes first → IsHistory bytes second → first ≡ second }
+{
+    dist_laws();
 }

@@ -1,10 +1,13 @@
-ghost use Rattle.std.specs.Prelude.{◌≡◌, ◌≢◌, ◌<◌, ℕ, IfNone, IfOk, IfSome, IsErrOf, OnOk, false, length, slice_index, true};
+ghost use Rattle.std.specs.Prelude.{◌≡◌, ◌↔◌, ℕ, List, IfOk, IsErrOf, OnOk, false, true};
 ghost use Rattle.std.specs.List.{after_last, before_last, list_any};
+ghost use Rattle.conda_base.specs.Signs.{dash};
+ghost use Rattle.conda_base.specs.Texts.{is_byte};
 ghost use Rattle.conda_path.specs.Dists as dists;
-ghost use Rattle.conda_path.specs.Dists.{dist_build, dist_name, dist_version, IsDist, joined};
+ghost use Rattle.conda_path.specs.Dists.{dist_build, dist_name, dist_text, dist_version, IsDist, IsSplit};
 
 use crate::error::DistErr;
-use conda_base::{Copied, Text};
+use crate::scan::{self, Bad};
+use conda_base::{Copied, Text, cut_last, cut_laws};
 use std::alloc::{AllocError, Global};
 use std::marker::Model;
 
@@ -37,26 +40,11 @@ impl Model for Dist {
     ghost invariant = { λ d. is_dist d.text ≡ true };
 }
 
-/// The offset of the last `-`.
-fn last_dash(text: &[u8]) -> Option<usize>
-    ensures dash { IfSome result (λ at. (at < length text.now) × (slice_index text.now at ≡ 45)) }
-    ensures last { IfSome result (λ at. (k : ℕ) → at < k → k < length text.now → slice_index text.now k ≢ 45) }
-    ensures none { IfNone result ((k : ℕ) → k < length text.now → slice_index text.now k ≢ 45) }
-{
-    let mut last = None;
-    for (at, byte) in text.iter().enumerate() {
-        if *byte == b'-' {
-            last = Some(at);
-        }
-    }
-    last
-}
-
 /// Whether a byte is one that no dist holds.
 fn is_bad_byte(byte: u8) -> bool
     ensures { result ≡ dists.is_bad_byte byte }
 {
-    byte < 33 || byte == 127 || byte == b'/' || byte == b':'
+    scan::is_bad_byte(Bad::ControlOrSpace, byte) || byte == b'/' || byte == b':'
 }
 
 /// Whether the text begins with a byte that no dist begins with.
@@ -71,11 +59,12 @@ fn begins_badly(text: &[u8]) -> bool
 
 /// What stands before the last `-` and behind it; nothing and the whole text, where there is none.
 fn cut(text: &str) -> (&str, &str)
-    ensures before { result.0.now ≡ before_last dists.is_dash text.now }
-    ensures behind { result.1.now ≡ after_last dists.is_dash text.now }
+    ensures before { result.0.now ≡ before_last (is_byte dash) text.now }
+    ensures behind { result.1.now ≡ after_last (is_byte dash) text.now }
 {
-    match last_dash(text.as_bytes()) {
-        Some(at) => (&text[..at], &text[at + 1..]),
+    cut_laws();
+    match cut_last(text, b'-') {
+        Some(halves) => halves,
         None => ("", text),
     }
 }
@@ -123,6 +112,15 @@ fn is_dist(text: &str) -> bool
     has_parts(text)
 }
 
+/// The test of a dist is its rule: a name, a version and a build in one text, which are found in it again.
+pub fn dist_laws()
+    ensures rule { (text : List ℕ) → (dists.is_dist text ≡ true) ↔ IsDist text }
+    ensures split { (text : List ℕ) → dists.is_dist text ≡ true → text ≡ dist_text (dist_name text) (dist_version text) (dist_build text) }
+    ensures parts { (text name version build : List ℕ) → IsSplit text name version build → (dist_name text ≡ name) × (dist_version text ≡ version) × (dist_build text ≡ build) }
+{
+    cut_laws();
+}
+
 impl Dist {
     /// Reads a dist.
     pub fn read(alloc: Global, text: &str) -> Result<Dist, DistErr>
@@ -132,6 +130,7 @@ impl Dist {
         ensures exact { OnOk result (dists.is_dist text.now ≡ true) }
         ensures exact_bad { IsErrOf result DistErr.BadDist → dists.is_dist text.now ≡ false }
     {
+        dist_laws();
         if !is_dist(text) {
             return Err(DistErr::BadDist);
         }
@@ -147,14 +146,16 @@ impl Dist {
         ensures rule { IsDist self.now }
         ensures holds { dists.is_dist self.now ≡ true }
     {
+        dist_laws();
         self.text.as_str()
     }
 
     /// The name: what stands before the last two `-`. It takes no memory.
     pub fn name(&self) -> &str
         ensures name { result.now ≡ dist_name self.now }
-        ensures split { self.now ≡ joined (dist_name self.now) (dist_version self.now) (dist_build self.now) }
+        ensures split { self.now ≡ dist_text (dist_name self.now) (dist_version self.now) (dist_build self.now) }
     {
+        dist_laws();
         let (front, _) = cut(self.text.as_str());
         let (name, _) = cut(front);
         name
@@ -163,8 +164,9 @@ impl Dist {
     /// The version: what stands between the last two `-`. It takes no memory.
     pub fn version(&self) -> &str
         ensures version { result.now ≡ dist_version self.now }
-        ensures split { self.now ≡ joined (dist_name self.now) (dist_version self.now) (dist_build self.now) }
+        ensures split { self.now ≡ dist_text (dist_name self.now) (dist_version self.now) (dist_build self.now) }
     {
+        dist_laws();
         let (front, _) = cut(self.text.as_str());
         let (_, version) = cut(front);
         version
@@ -173,8 +175,9 @@ impl Dist {
     /// The build: what stands behind the last `-`. It takes no memory.
     pub fn build(&self) -> &str
         ensures build { result.now ≡ dist_build self.now }
-        ensures split { self.now ≡ joined (dist_name self.now) (dist_version self.now) (dist_build self.now) }
+        ensures split { self.now ≡ dist_text (dist_name self.now) (dist_version self.now) (dist_build self.now) }
     {
+        dist_laws();
         let (_, build) = cut(self.text.as_str());
         build
     }

@@ -10,9 +10,9 @@ mod scan;
 mod slot;
 mod values;
 
-pub use dist::Dist;
+pub use dist::{Dist, dist_laws};
 pub use error::{DistErr, PathErr};
-pub use lane::lane_of;
+pub use lane::{lane_of, trash_laws};
 pub use prefix::Prefix;
 pub use rel_path::RelPath;
 pub use slot::{SlotKey, StorePath, one_key};

@@ -8,7 +8,7 @@ ghost use Rattle.conda_path.specs.declared.slot.SlotKey.{SlotKey};
 
 use crate::dist::Dist;
 use crate::rel_path::RelPath;
-use conda_base::{Copied, Text};
+use conda_base::{Copied, Text, cut_laws};
 use std::alloc::AllocError;
 use std::cmp::Ordering;
 use std::hash::{Hash, Hasher};
@@ -71,7 +71,9 @@ fn slot_cmp(a: &SlotKey, b: &SlotKey) -> Ordering
 /// Keys whose channels and dists hold no `/` are told apart by their texts.
 pub fn one_key()
     ensures { (a b : SlotKey) → HasNoSlash a → HasNoSlash b → slot_text a ≡ slot_text b → a ≡ b }
-{}
+{
+    cut_laws();
+}
 
 impl PartialEq for SlotKey {
     ghost use Rattle.std.specs.Prelude.{nat_eq};
