@@ -1,14 +1,17 @@
 -- Lemmas on runs of digits and of other characters.
-use Rattle.std.proofs.Common.{◌≡◌, ℕ, zero, suc, ◌+◌, ◌*◌, ◌^◌, ◌<◌, ◌≤◌, Bool, true, false, cond, ◌&&◌, get_or, List, [], ◌∷◌, length, take, drop, map, Option, None, Some, refl, sym, ap, subst, ◌∙◌, arith, length-take, drop-drop}
+use Rattle.std.proofs.Common.{◌≡◌, ℕ, zero, suc, ◌+◌, ◌*◌, ◌^◌, ◌<◌, ◌≤◌, Bool, true, false, cond, ◌&&◌, get_or, List, [], ◌∷◌, ◌++◌, length, take, drop, map, None, refl, sym, ap, subst, ◌∙◌, arith, length-take, drop-drop}
+use Rattle.std.proofs.lemmas.Bool.{and_from, and_parts}
 use Rattle.std.proofs.lemmas.Bool.Decides.{nat_tests}
 use Rattle.std.proofs.lemmas.Grind.{pow_more}
-use Rattle.std.proofs.Math.Seq.{drop-nil}
+use Rattle.std.proofs.Math.Seq.{drop-append_seam, drop-nil, take-append_seam}
 use Rattle.std.proofs.Math.Nat.{pow-le-pow_right}
-use Rattle.std.specs.Bool.{beq, ◌==◌}
+use Rattle.std.specs.Bool.{beq}
 use Rattle.std.specs.Char.{is_ascii_digit}
-use Rattle.std.specs.List.{list_all, position, prefix_len}
-use Rattle.std.specs.Option.{option_map}
-use Rattle.conda_version.specs.Grammar.{HasShortRuns, HasValue, begins_with_digit, dot, epoch_fault, joined, local_text, main_dots, main_text, numeral_from, run_len, runs_of}
+use Rattle.std.specs.List.{list_all, prefix_len}
+use Rattle.std.specs.Str.{all_ascii_digits}
+use Rattle.conda_base.specs.Numbers.{is_digits}
+use Rattle.conda_version.specs.Grammar.{HasShortRuns, HasValue, joined, numeral_from, run_len, runs_of}
+use Rattle.conda_version.specs.Versions.{as_dot, begins_with_digit, main_dots}
 
 abbrev like : Bool → ℕ → Bool
 like k c = beq k (is_ascii_digit c)
@@ -121,16 +124,16 @@ prefix_of_part p (suc i) (suc n) (x ∷ xs) = prefix_of_part p i n xs
 pub short_of_take : (n : ℕ) (text : List ℕ) → HasShortRuns text → HasShortRuns (take n text)
 short_of_take n text short = record { each = λ i. omega (arith, prefix_of_part is_ascii_digit i n text, short.each i) }
 
-digit_of_dot : (b : ℕ) → is_ascii_digit (dot b) ≡ is_ascii_digit b
+digit_of_dot : (b : ℕ) → is_ascii_digit (as_dot b) ≡ is_ascii_digit b
 digit_of_dot b = grind (arith, nat_tests)
 
-prefix_of_dots : (i : ℕ) (xs : List ℕ) → prefix_len is_ascii_digit (drop i (map dot xs)) ≡ prefix_len is_ascii_digit (drop i xs)
+prefix_of_dots : (i : ℕ) (xs : List ℕ) → prefix_len is_ascii_digit (drop i (map as_dot xs)) ≡ prefix_len is_ascii_digit (drop i xs)
 prefix_of_dots zero [] = refl
 prefix_of_dots zero (x ∷ xs) = rw (digit_of_dot x) (ap (λ n. cond (is_ascii_digit x) (1 + n) 0) (prefix_of_dots 0 xs))
 prefix_of_dots (suc i) [] = refl
 prefix_of_dots (suc i) (x ∷ xs) = prefix_of_dots i xs
 
-pub short_of_dots : (text : List ℕ) → HasShortRuns text → HasShortRuns (map dot text)
+pub short_of_dots : (text : List ℕ) → HasShortRuns text → HasShortRuns (map as_dot text)
 short_of_dots text short = record { each = λ i. omega (arith, prefix_of_dots i text, short.each i) }
 
 prefix_of_main_dots : (i : ℕ) (xs : List ℕ) → prefix_len is_ascii_digit (drop i (main_dots xs)) ≡ prefix_len is_ascii_digit (drop i xs)
@@ -154,20 +157,30 @@ digit_at [] i h k = absurd (omega arith)
 digit_at (x ∷ xs) zero h k = grind (arith, nat_tests)
 digit_at (x ∷ xs) (suc i) h k = digit_at xs i h (omega arith)
 
--- the digits before the mark of a sound epoch are few
-pub epoch_is_short : (text : List ℕ) (at : ℕ) → HasShortRuns text → at ≤ length text → list_all is_ascii_digit (take at text) ≡ true → at ≤ 38
-epoch_is_short text at short k h = omega (arith, prefix_of_all is_ascii_digit at text h k, short.each 0)
+-- how long digits are
+digits_len : (ds : List ℕ) → all_ascii_digits ds ≡ true → prefix_len is_ascii_digit ds ≡ length ds
+digits_len [] h = refl
+digits_len (d ∷ ds) h =
+    let parts = and_parts (is_ascii_digit d) (all_ascii_digits ds) h in
+    ap (λ k. cond k (1 + prefix_len is_ascii_digit ds) 0) parts.0 ∙ omega (arith, digits_len ds parts.1)
 
-pub epoch_is_digits : (text : List ℕ) (at : ℕ) → Some at ≡ position (λ b. b == 33) text → epoch_fault text ≡ None → list_all is_ascii_digit (take at text) ≡ true
-epoch_is_digits text at found good = grind (arith, nat_tests)
+pub all_digits : (ds : List ℕ) → all_ascii_digits ds ≡ true → list_all is_ascii_digit ds ≡ true
+all_digits [] h = refl
+all_digits (d ∷ ds) h =
+    let parts = and_parts (is_ascii_digit d) (all_ascii_digits ds) h in
+    and_from (is_ascii_digit d) (list_all is_ascii_digit ds) parts.0 (all_digits ds parts.1)
 
--- The parts of a text without long runs.
+pub digits_are_all : (ds : List ℕ) → is_digits ds ≡ true → all_ascii_digits ds ≡ true
+digits_are_all [] h = refl
+digits_are_all (d ∷ ds) h = h
 
-pub short_of_main : (text : List ℕ) → HasShortRuns text → HasShortRuns (main_text text)
-short_of_main text short = short_of_main_dots _ (short_of_take _ _ (short_of_drop _ text short))
+pub short_digits : (ds : List ℕ) → is_digits ds ≡ true → HasShortRuns ds → length ds ≤ 38
+short_digits ds h short = omega (arith, digits_len ds (digits_are_all ds h), short.each 0)
 
-pub short_of_local : (text part : List ℕ) (mark : Option ℕ) → Some part ≡ option_map (local_text text) mark → HasShortRuns text → HasShortRuns part
-short_of_local text part None h short = cc
-short_of_local text part (Some mark) h short =
-    let e : part ≡ local_text text mark = cc in
-    subst HasShortRuns (sym e) (short_of_dots _ (short_of_drop (mark + 1) text short))
+-- the parts of a text without long runs
+
+pub short_front : (xs ys : List ℕ) → HasShortRuns (xs ++ ys) → HasShortRuns xs
+short_front xs ys short = subst HasShortRuns (take-append_seam xs ys) (short_of_take (length xs) (xs ++ ys) short)
+
+pub short_back : (xs ys : List ℕ) → HasShortRuns (xs ++ ys) → HasShortRuns ys
+short_back xs ys short = subst HasShortRuns (drop-append_seam xs ys) (short_of_drop (length xs) (xs ++ ys) short)

@@ -15,6 +15,3 @@ pub use error::{VersionErr, VersionWhy};
 pub use laws::{order_laws, trimmed_law};
 pub use text::trimmed;
 pub use version::Version;
-
-#[cfg(test)]
-mod tests;

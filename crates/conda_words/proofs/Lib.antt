@@ -1,5 +1,2 @@
-pub mod ValueLemmas
-pub mod PieceLemmas
-pub mod NestedLemmas
-pub mod ScriptLemmas
-pub mod FaultLemmas
+pub mod ItemLemmas
+pub mod TextLemmas

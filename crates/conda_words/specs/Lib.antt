@@ -1,7 +1,5 @@
+pub mod Table
 pub mod Values
-pub mod Pieces
-pub mod Rows
-pub mod Faults
-pub mod Commands
-pub mod Nested
+pub mod Cut
+pub mod Reading
 pub mod Scripts

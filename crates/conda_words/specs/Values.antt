@@ -1,49 +1,33 @@
 -- What the values of options are. This project's own.
-use Rattle.std.specs.Prelude.{ℕ, ◌+◌, ◌*◌, ◌-◌, ◌^◌, Bool, false, ◌&&◌, ◌||◌, ◌==◌, not, nat_lt, nat_le, nat_eq, if◌then◌else◌, List, [], ◌∷◌, length, map, codes, Option, None, Some, is_none, option_and_then}
-use Rattle.std.specs.Char.{is_ascii_alphanumeric, is_ascii_digit, to_ascii_lowercase}
+use Rattle.std.specs.Prelude.{ℕ, ◌+◌, Bool, ◌&&◌, ◌||◌, ◌==◌, not, nat_lt, nat_le, nat_eq, if◌then◌else◌, List, length, codes, Option, None, Some, is_ok, option_and_then}
+use Rattle.std.specs.Char.{is_ascii_alphanumeric}
 use Rattle.std.specs.List.{after_first, before_first, list_all, starts_with}
-use Rattle.conda_version.specs.Grammar.{offence}
+use Rattle.conda_base.specs.Numbers.{number_below}
+use Rattle.conda_base.specs.Signs.{dash, dot, equals, underscore}
+use Rattle.conda_base.specs.Texts.{begins_with, is_byte}
+use Rattle.conda_version.specs.Grammar.{version_read}
 use Rattle.conda_version.specs.Text.{holds, trimmed}
 use Rattle.conda_words.specs.declared.command.Virtual.{Virtual}
 
--- the number that goes on with these digits, if it stays below 2^32
-abbrev pub number_from : ℕ → List ℕ → Option ℕ
-number_from n [] = Some n
-number_from n (d ∷ rest) =
-    if is_ascii_digit d && nat_lt (n * 10 + (d - 48)) (2 ^ 32) then number_from (n * 10 + (d - 48)) rest else None
-
--- the number below 2^32 that this is, in decimal without a leading zero
-abbrev pub number_of : List ℕ → Option ℕ
-number_of [] = None
-number_of (d ∷ []) = number_from 0 (d ∷ [])
-number_of (d ∷ e ∷ rest) = if d == 48 then None else number_from 0 (d ∷ e ∷ rest)
-
--- the number, where it lies in a range
+-- the number of which this is the decimal text, without a leading zero, where it lies in a range
 abbrev pub number_in : ℕ → ℕ → List ℕ → Option ℕ
-number_in low high text = option_and_then (λ n. if nat_le low n && nat_le n high then Some n else None) (number_of text)
+number_in low high text = option_and_then (λ n. if nat_le low n then Some n else None) (number_below (high + 1) text)
 
 -- a letter, a digit, `_`, `-` or `.`
 abbrev pub is_name_byte : ℕ → Bool
-is_name_byte b = is_ascii_alphanumeric b || b == 95 || b == 45 || b == 46
-
-abbrev pub begins_with : ℕ → List ℕ → Bool
-begins_with c [] = false
-begins_with c (b ∷ rest) = b == c
+is_name_byte b = is_ascii_alphanumeric b || b == underscore || b == dash || b == dot
 
 -- the name of a channel: 1 to 64 letters, digits, `_`, `-` and `.`, of which `.` isn't the first
 abbrev pub is_channel : List ℕ → Bool
 is_channel name =
-    nat_lt 0 (length name) && nat_le (length name) 64 && not (begins_with 46 name) && list_all is_name_byte name
-
-abbrev pub is_equals : ℕ → Bool
-is_equals b = b == 61
+    nat_lt 0 (length name) && nat_le (length name) 64 && not (begins_with dot name) && list_all is_name_byte name
 
 -- `NAME=VERSION`, split at the first `=`; no spaces at the version's ends
 abbrev pub virtual_name : List ℕ → List ℕ
-virtual_name value = before_first is_equals value
+virtual_name value = before_first (is_byte equals) value
 
 abbrev pub virtual_version : List ℕ → List ℕ
-virtual_version value = trimmed (after_first is_equals value)
+virtual_version value = trimmed (after_first (is_byte equals) value)
 
 -- the name of a virtual package
 abbrev pub is_virtual_name : List ℕ → Bool
@@ -51,7 +35,7 @@ is_virtual_name name = starts_with nat_eq name (codes "__") && list_all is_name_
 
 -- a version without `-`
 abbrev pub is_virtual_version : List ℕ → Bool
-is_virtual_version text = is_none (offence (trimmed text)) && not (holds 45 (trimmed text))
+is_virtual_version text = is_ok (version_read text) && not (holds dash text)
 
 -- a virtual package, of which `NAME-VERSION-0` has at most 255 bytes
 abbrev pub is_virtual : List ℕ → Bool
@@ -61,4 +45,4 @@ is_virtual value =
 
 -- the virtual package that a value gives
 abbrev pub virtual_of : List ℕ → Virtual
-virtual_of value = record { name = map to_ascii_lowercase (virtual_name value); version = virtual_version value }
+virtual_of value = record { name = virtual_name value; version = virtual_version value }

@@ -1,8 +1,6 @@
-ghost use Rattle.std.specs.Prelude.{◌≡◌, IfOk};
-
 use conda_base::{Copied, Rows, Text};
 use conda_path::Prefix;
-use std::alloc::{AllocError, Global};
+use std::alloc::AllocError;
 
 /// What a command does.
 #[derive(Clone, Copy, Debug, PartialEq, Eq)]
@@ -37,15 +35,15 @@ pub enum Verb {
     Repair,
 }
 
-/// The name of a virtual package, in lower case, and its version, without spaces at its ends.
-#[derive(Debug, Drop)]
+/// The name of a virtual package, as it was given, and its version, without spaces at its ends.
+#[derive(Clone, Debug, PartialEq, Eq, Drop)]
 pub struct Virtual {
     pub name: Text,
     pub version: Text,
 }
 
 /// A command with its options and words.
-#[derive(Debug, Drop)]
+#[derive(Clone, Debug, PartialEq, Eq, Drop)]
 pub struct Command {
     pub verb: Verb,
     /// The prefixes that `-p` gives, in order.
@@ -67,7 +65,7 @@ pub struct Command {
 }
 
 /// A command of a script.
-#[derive(Debug, Drop)]
+#[derive(Clone, Debug, PartialEq, Eq, Drop)]
 pub struct Line {
     /// The number of its line, from 1.
     pub number: u32,
@@ -76,45 +74,14 @@ pub struct Line {
     pub command: Command,
 }
 
-impl Virtual {
-    /// An equal one.
-    pub fn copy(&self, alloc: Global) -> Result<Virtual, AllocError>
-        ensures { IfOk result (λ made. made ≡ self.now) }
-    {
-        Ok(Virtual {
-            name: self.name.copy(alloc)?,
-            version: self.version.copy(alloc)?,
-        })
-    }
-}
-
 impl Copied for Virtual {
-    fn copied(&self, alloc: Global) -> Result<Virtual, AllocError> {
-        self.copy(alloc)
-    }
-}
-
-impl Command {
-    /// An equal command.
-    pub fn copy(&self, alloc: Global) -> Result<Command, AllocError>
-        ensures { IfOk result (λ c. c ≡ self.now) }
-    {
-        Ok(Command {
-            verb: self.verb,
-            prefixes: self.prefixes.copy(alloc)?,
-            channels: self.channels.copy(alloc)?,
-            channel_dir: self.channel_dir.copy(alloc)?,
-            pkgs_dir: self.pkgs_dir.copy(alloc)?,
-            jobs: self.jobs,
-            virtuals: self.virtuals.copy(alloc)?,
-            copy: self.copy,
-            words: self.words.copy(alloc)?,
-        })
+    fn copy(&self) -> Result<Virtual, AllocError> {
+        self.clone()
     }
 }
 
 impl Copied for Command {
-    fn copied(&self, alloc: Global) -> Result<Command, AllocError> {
-        self.copy(alloc)
+    fn copy(&self) -> Result<Command, AllocError> {
+        self.clone()
     }
 }

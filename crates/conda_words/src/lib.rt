@@ -2,14 +2,12 @@
 //! nothing. This project's own rules.
 #![tactic(auto)]
 
-mod build;
-mod check;
 mod command;
+mod cut;
 mod error;
-mod nested;
-mod piece;
-mod row;
+mod reading;
 mod script;
+mod table;
 mod value;
 mod words;
 
@@ -17,6 +15,3 @@ pub use command::{Command, Line, Verb, Virtual};
 pub use error::{Why, WordsErr};
 pub use script::read_script;
 pub use words::read_words;
-
-#[cfg(test)]
-mod tests;

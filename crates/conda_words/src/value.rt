@@ -1,47 +1,23 @@
-ghost use Rattle.std.specs.Prelude.{◌≡◌, IfOk, MatchOption, map};
+ghost use Rattle.std.specs.Prelude.{◌≡◌, IfOk};
 ghost use Rattle.std.specs.List.{after_first, before_first, list_all};
+ghost use Rattle.conda_base.specs.Texts.{is_byte};
 ghost use Rattle.conda_version.specs.Text.{holds};
 ghost use Rattle.conda_words.specs.Values as values;
 
 use crate::command::Virtual;
-use conda_base::Text;
+use conda_base::{Text, read_number};
 use conda_version::{Version, VersionErr, trimmed};
 use std::alloc::{AllocError, Global};
 
-/// The number that goes on with these digits, if they are digits and it stays below 2^32.
-fn number_from(digits: &[u8]) -> Option<u32>
-    ensures { result ≡ values.number_from 0 digits.now }
-{
-    let mut number: u32 = 0;
-    for digit in digits {
-        if !digit.is_ascii_digit() {
-            return None;
-        }
-        number = number
-            .checked_mul(10)?
-            .checked_add(u32::from(*digit - b'0'))?;
-    }
-    Some(number)
-}
-
-/// The number below 2^32 that the text is, in decimal without a leading zero.
-pub fn number_of(text: &str) -> Option<u32>
-    ensures { result ≡ values.number_of text.now }
-{
-    match text.as_bytes() {
-        [] => None,
-        [b'0', _, ..] => None,
-        digits => number_from(digits),
-    }
-}
-
-/// The number, where it lies in a range.
+/// The number of which the text is the decimal form, without a leading zero, where it lies in a range.
 pub fn number_in(low: u32, high: u32, text: &str) -> Option<u32>
     ensures { result ≡ values.number_in low high text.now }
 {
-    match number_of(text) {
-        Some(n) => { if low <= n && n <= high { Some(n) } else { None } }
-        None => None,
+    let n = read_number(text.as_bytes(), u64::from(high) + 1)?;
+    if u64::from(low) <= n {
+        Some(n as u32)
+    } else {
+        None
     }
 }
 
@@ -76,8 +52,8 @@ pub fn is_channel(name: &str) -> bool
 
 /// What stands before the first `=` and behind it; the whole and nothing, where there is none.
 pub fn cut_at_equals(text: &str) -> (&str, &str)
-    ensures before { result.0.now ≡ before_first values.is_equals text.now }
-    ensures behind { result.1.now ≡ after_first values.is_equals text.now }
+    ensures before { result.0.now ≡ before_first (is_byte 61) text.now }
+    ensures behind { result.1.now ≡ after_first (is_byte 61) text.now }
 {
     match text.split_once('=') {
         Some((before, behind)) => (before, behind),
@@ -103,7 +79,7 @@ fn is_virtual_version(alloc: Global, text: &str) -> Result<bool, AllocError>
     ensures { IfOk result (λ good. good ≡ values.is_virtual_version text.now) }
 {
     match Version::read(alloc, text) {
-        Ok(version) => Ok(!holds_dash(version.text())),
+        Ok(_) => Ok(!holds_dash(text)),
         Err(VersionErr::BadVersion { .. }) => Ok(false),
         Err(VersionErr::Memory) => Err(AllocError),
     }
@@ -136,7 +112,7 @@ pub fn virtual_of(alloc: Global, value: &str) -> Result<Virtual, AllocError>
 {
     let (name, version) = cut_at_equals(value);
     Ok(Virtual {
-        name: Text::from_string(name.to_ascii_lowercase(alloc)?),
+        name: Text::from_str(alloc, name)?,
         version: Text::from_str(alloc, trimmed(version))?,
     })
 }

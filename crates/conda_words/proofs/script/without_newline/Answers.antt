@@ -1,7 +1,7 @@
 use Rattle.std.proofs.Common.{lit<, sym, ap, ◌∙◌}
 use Rattle.std.proofs.lemmas.Str.Pattern.{strip_suffix_char}
 use Rattle.conda_words.specs.Scripts.{without_newline}
-use Rattle.conda_words.proofs.ScriptLemmas.{newline_cut, newline_none}
+use Rattle.conda_words.proofs.TextLemmas.{newline_cut, newline_none}
 use Rattle.conda_words.proofs.script.without_newline.Goals as goal
 
 pub returns-in-Some : goal.returns-in-Some

@@ -1,8 +1,0 @@
-use Rattle.std.proofs.Common.{lit<}
-use Rattle.std.proofs.lemmas.Str.Pattern.{split_once_first}
-use Rattle.conda_words.proofs.ScriptLemmas.{parted_first}
-use Rattle.conda_words.proofs.script.next_field.Goals as goal
-
-pub returns-clause-part : goal.returns-clause-part
-returns-clause-part c =
-    parted_first 32 c.args.text.now c.split_once.result (split_once_first 32 c.args.text.now c.split_once.result c.split_once.ensures.cases (lit< tt))
