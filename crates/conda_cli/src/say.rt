@@ -32,7 +32,7 @@ pub fn give<O: Out>(
     requires { IsErrOf report Fault.NoEnv → IsSome prefix }
     ensures { Gives
         (λ answer. (answer ≡ answer_of report (unwrap_or (option_copied prefix.entry) []))
-            ⊎ (answer ≡ refusal Fault.Memory []))
+        ⊎ (answer ≡ refusal Fault.Memory []))
         result (O.state out.old) (O.state out.new) }
 {
     match report {

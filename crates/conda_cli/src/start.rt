@@ -15,8 +15,8 @@ usage: conda [--root DIR] COMMAND ..
 
 /// The text that `--help` or `--version` as the first word asks for. It takes no memory.
 pub fn asked_text(words: &[String]) -> Option<&'static str>
-    ensures { MatchOption result (asked (map string_bytes words.now) ≡ None)
-        (λ text. asked (map string_bytes words.now) ≡ Some text.now) }
+    ensures { MatchOption result (asked HELP.now VERSION.now (map string_bytes words.now) ≡ None)
+        (λ text. asked HELP.now VERSION.now (map string_bytes words.now) ≡ Some text.now) }
 {
     match words {
         [first, ..] if first.as_str() == "--help" => Some(HELP),

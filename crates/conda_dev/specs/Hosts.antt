@@ -1,9 +1,10 @@
 -- What a host tells of itself, and how its calls change that. This project's own.
-use Rattle.std.specs.Prelude.{◌≡◌, ◌≢◌, ◌≤◌, ℕ, ◌+◌, ◌-◌, ◌^◌, List, length, map, min, sum_by, Bool, true, false, ◌&&◌, ◌||◌, not, Option, refl}
+use Rattle.std.specs.Prelude.{◌≡◌, ◌≢◌, ◌≤◌, ℕ, ◌+◌, ◌-◌, ◌^◌, List, length, map, min, sum_by, get_or, slice_set, Bool, true, false, ◌&&◌, ◌||◌, not, Option, refl}
 use Rattle.std.specs.Str.{bytes_eq}
-use Rattle.std.proofs.Common.{true≢false, ap, sym, ◌∙◌}
+use Rattle.std.proofs.Common.{true≢false, ap, subst, sym, ◌∙◌}
+use Rattle.std.proofs.lemmas.List.{length-set}
 use Rattle.std.proofs.lemmas.Slice.Eq.{bytes_eq-Decides}
-use Rattle.conda_dev.specs.Lanes.{InPlace}
+use Rattle.conda_dev.specs.Lanes.{AreNew, InPlace, still_placed}
 use Rattle.conda_dev.specs.Tree.{Tree, together}
 
 -- the tree of each prefix that isn't lent, where it is told; which prefixes are lent; the count of the host's own
@@ -68,3 +69,21 @@ pub lent_and_returned : {A : Type 0} (prefix : List ℕ) (before between now : L
     → SameOfOthers prefix between now → now prefix ≡ before prefix → SameOfAll before now
 lent_and_returned prefix before between now lent returned here =
     same_of_all prefix before now (λ other ne. returned other ne ∙ lent other ne) here
+
+-- a prefix that is lent now
+lent_now : (prefix : List ℕ) (before now : List ℕ → Bool) → IsLentToo prefix before now → now prefix ≡ true
+lent_now prefix before now lent =
+    lent prefix ∙ ap (λ b. b || before prefix) ((bytes_eq-Decides prefix prefix).1 refl)
+
+-- a prefix that was just lent may be taken back after a call of one of its lanes
+pub back_after_call : {L : Type 0} (number lanes faults : L → ℕ) (prefix : List ℕ) (n i : ℕ) (all : List L) (lane next : L)
+    (before : List ℕ → Bool) (host : HostState) → IsLentToo prefix before host.lent → 1 ≤ n → AreNew number lanes faults n all
+    → lane ≡ get_or all i lane → number next ≡ number lane → lanes next ≡ lanes lane
+    → CanTakeBack number lanes prefix (slice_set all i next) host
+back_after_call number lanes faults prefix n i all lane next before host lent some new is its_number its_lanes =
+    let P : ℕ → Type 0 = λ k. 1 ≤ k in
+    record {
+      lent = lent_now prefix before host.lent lent;
+      some = subst P (sym (length-set all i next ∙ new.count)) some;
+      placed = still_placed number lanes all i lane next new.placed is its_number its_lanes;
+    }

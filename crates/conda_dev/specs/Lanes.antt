@@ -2,7 +2,7 @@
 use Rattle.std.specs.Prelude.{◌≡◌, ℕ, zero, suc, ◌+◌, List, [], ◌∷◌, ◌++◌, map, length, replicate, get_or, slice_set, All, refl}
 use Rattle.std.specs.List.{range_with_len}
 use Rattle.std.proofs.Common.{zero-add, ap, sym, ◌∙◌}
-use Rattle.std.proofs.lemmas.List.{map-append, length-map, replicate-append-replicate}
+use Rattle.std.proofs.lemmas.List.{map-append, length-map, length-set, replicate-append-replicate}
 use Rattle.std.proofs.lemmas.List.Elements.{All-append, All-cons, All-nil}
 use Rattle.std.proofs.lemmas.List.FromFn.{length-range_with_len, map-range_with_len_more}
 
@@ -77,3 +77,13 @@ map_set f (x ∷ xs) (suc n) d next same = ap (λ ys. f x ∷ ys) (map_set f xs 
 pub map_write : {L A : Type 0} (f : L → A) (all : List L) (i : ℕ) (lane next : L) → f next ≡ f lane → lane ≡ get_or all i lane
     → map f (slice_set all i next) ≡ map f all
 map_write f all i lane next same is = map_set f all i lane next (same ∙ ap f is)
+
+-- each lane stands at the place of its number after a call of one of them
+pub still_placed : {L : Type 0} (number lanes : L → ℕ) (all : List L) (i : ℕ) (lane next : L) → InPlace number lanes all
+    → lane ≡ get_or all i lane → number next ≡ number lane → lanes next ≡ lanes lane → InPlace number lanes (slice_set all i next)
+still_placed number lanes all i lane next placed is its_number its_lanes =
+    let len = length-set all i next in
+    record {
+      numbers = map_write number all i lane next its_number is ∙ placed.numbers ∙ ap (range_with_len 0) (sym len);
+      counts = map_write lanes all i lane next its_lanes is ∙ placed.counts ∙ ap (λ n. replicate n n) (sym len);
+    }
