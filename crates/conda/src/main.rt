@@ -41,7 +41,8 @@ fn machine(
     rt: &HostRuntime,
     root: &str,
 ) -> Result<(RealHost<HostRuntime>, RealClock<HostRuntime>), AllocError>
-    ensures { IfOk result (λ made. IsNew (λ _. None) (⟦<RealHost<HostRuntime> as Host>⟧.state made.0)) }
+    ensures { IfOk result (λ made.
+        IsNew (λ _. None) (⟦<RealHost<HostRuntime> as Host>⟧.state made.0)) }
 {
     let host = RealHost::make(rt.clone()?, rt.alloc(), root)?;
     Ok((host, RealClock::make(rt.clone()?)))

@@ -10,12 +10,12 @@ use Rattle.conda_history.specs.declared.revision.Block.{Block}
 use Rattle.conda_cli.specs.declared.fault.Fault.{Fault}
 use Rattle.conda_cli.specs.declared.fault.Fault.TheVariants.{NoEnv, BadHistory, EnvFault, HostFault, Memory}
 use Rattle.conda_cli.specs.Faults.{status_of}
-use Rattle.conda_cli.specs.Answers.{Answer, IsFaultOf, IsList, IsReportOf, IsHistoryOf, IsNoHistory, IsListAnswer, IsPut, IsGiven, Gives, IsQuiet, IsBad, IsGood, Lists, ListsExactly, Told, history_in, refusal}
+use Rattle.conda_cli.specs.Answers.{Answer, IsFaultOf, IsList, IsReportOf, IsHistoryOf, IsNoHistory, IsListAnswer, IsPut, IsGiven, AnswersWith, IsQuiet, IsBad, IsGood, Lists, ListsExactly, Told, history_in, refusal}
 
 -- the answer that was given is of the kind that the command's answer is
 pub gives_list : (prefix : List ℕ) (c d : HostState) (x : Answer) (status : ℕ) (before now : OutState)
-    → Gives (λ answer. (answer ≡ x) ⊎ (answer ≡ refusal Memory [])) status before now
-    → IsListAnswer prefix c d x → Gives (IsListAnswer prefix c d) status before now
+    → AnswersWith (λ answer. (answer ≡ x) ⊎ (answer ≡ refusal Memory [])) status before now
+    → IsListAnswer prefix c d x → AnswersWith (IsListAnswer prefix c d) status before now
 gives_list prefix c d x status before now gives is = (
   gives.0,
   elim gives.1 as (λ _. IsListAnswer prefix c d gives.0) [
@@ -41,7 +41,7 @@ memory_alone before now quiet _ is = absurd is
 
 -- where no count rises, the answer is the tree's
 exact : (tree : Tree) (prefix : List ℕ) (status : ℕ) (before now : Told) → before.host.told prefix ≡ Some tree → IsQuiet before now
-    → Gives (IsListAnswer prefix before.host now.host) status before.output now.output → IsExact prefix (history_in tree) status before.output now.output
+    → AnswersWith (IsListAnswer prefix before.host now.host) status before.output now.output → IsExact prefix (history_in tree) status before.output now.output
 exact tree prefix status before now is quiet gives =
     let whole : IsPut gives.0 status before.output now.output = given_whole gives.0 status before.output now.output quiet.output gives.2 in
     elim gives.1 as (λ _. IsExact prefix (history_in tree) status before.output now.output) [
@@ -163,7 +163,7 @@ fault_of_three before now _ is three = absurd is
 
 -- status 3 only where a count rose
 fault_rose : (prefix : List ℕ) (before now : Told) (status : ℕ)
-    → Gives (IsListAnswer prefix before.host now.host) status before.output now.output → status ≡ 3 → Rises before now
+    → AnswersWith (IsListAnswer prefix before.host now.host) status before.output now.output → status ≡ 3 → Rises before now
 fault_rose prefix before now status gives three =
     elim gives.2 as (λ _. Rises before now) [
       | inr cut ↦ inr (inr cut.1)
@@ -178,10 +178,10 @@ fault_rose prefix before now status gives three =
 
 -- all that a run of `list` tells
 pub listed_all : OneHistory → (prefix : List ℕ) (status : ℕ) (before now : Told) (x : Answer)
-    → Gives (λ answer. (answer ≡ x) ⊎ (answer ≡ refusal Memory [])) status before.output now.output
+    → AnswersWith (λ answer. (answer ≡ x) ⊎ (answer ≡ refusal Memory [])) status before.output now.output
     → IsListAnswer prefix before.host now.host x → Lists prefix status before now
 listed_all one prefix status before now x gives is =
-    let g : Gives (IsListAnswer prefix before.host now.host) status before.output now.output =
+    let g : AnswersWith (IsListAnswer prefix before.host now.host) status before.output now.output =
     gives_list prefix before.host now.host x status before.output now.output gives is in
     record {
       answers = g;

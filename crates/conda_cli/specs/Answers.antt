@@ -123,8 +123,8 @@ IsGiven answer status before now =
     ⊎ ((status ≡ 3) × Rose before.faults now.faults × (n : ℕ) × (now.told ≡ appended before.told (take n answer.text)))
 
 -- some answer of this kind was given
-abbrev pub Gives : (Answer → Type 0) → ℕ → OutState → OutState → Type 0
-Gives IsIt status before now = (answer : Answer) × IsIt answer × IsGiven answer status before now
+abbrev pub AnswersWith : (Answer → Type 0) → ℕ → OutState → OutState → Type 0
+AnswersWith IsIt status before now = (answer : Answer) × IsIt answer × IsGiven answer status before now
 
 -- this fault's line, or that there was no memory
 abbrev pub IsRefusal : Fault → Answer → Type 0
@@ -164,7 +164,7 @@ pub record ListsExactly (prefix : List ℕ) (found : Option (List ℕ)) (status 
 -- what a run of `list` on a prefix tells
 pub record Lists (prefix : List ℕ) (status : ℕ) (before now : Told) : Type 0 where
   -- some answer is given, with its cause
-  pub answers : Gives (IsListAnswer prefix before.host now.host) status before.output now.output
+  pub answers : AnswersWith (IsListAnswer prefix before.host now.host) status before.output now.output
   pub exactly : (tree : Tree) → before.host.told prefix ≡ Some tree → IsQuiet before now
       → ListsExactly prefix (history_in tree) status before.output now.output
   -- a fault only where a count rose

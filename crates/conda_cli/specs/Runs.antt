@@ -10,7 +10,7 @@ use Rattle.conda_words.specs.declared.error.Why.TheVariants.{Unknown}
 use Rattle.conda_words.specs.Reading.{words_read}
 use Rattle.conda_cli.specs.declared.fault.Fault.{Fault}
 use Rattle.conda_cli.specs.declared.fault.Fault.TheVariants.{Usage}
-use Rattle.conda_cli.specs.Answers.{Devices, Gives, IsRefusal, Lists}
+use Rattle.conda_cli.specs.Answers.{Devices, AnswersWith, IsRefusal, Lists}
 
 -- the words of some command line give it
 abbrev pub IsRead : Command → Type 0
@@ -35,7 +35,7 @@ module _ {H K I : Type 0} where
 
   -- this fault's line was given, or that there was no memory; and no other device was touched
   pub record Refuses (fault : Fault) (status : ℕ) (before now : Devices H K I) : Type 0 where
-    pub answers : Gives (IsRefusal fault) status before.told.output now.told.output
+    pub answers : AnswersWith (IsRefusal fault) status before.told.output now.told.output
     pub host : now.host ≡ before.host
     pub unread : IsUnread before now
 

@@ -50,7 +50,8 @@ fn lane_answer<T: Drop>(answer: Result<T, DeviceErr>) -> Result<T, Fault>
     }
 }
 
-/// The first bytes of the history at a prefix, one more than its limit at the most, or None where it is absent.
+/// The first bytes of the history at a prefix, one more than its limit at the most, or None where it
+/// is absent.
 pub fn find_history<H: Host>(
     alloc: Global,
     host: &mut H,
@@ -61,7 +62,8 @@ pub fn find_history<H: Host>(
     ensures bound { IfOk result (λ found.
         IfSome found (λ node. length node.bytes ≤ history_limit + 1)) }
     ensures found { IfOk result (λ found. IfSome ((H.state host.old).told prefix.now)
-        (λ tree. option_map (λ node. node.bytes) found ≡ option_map (take (history_limit + 1)) (history_in tree))) }
+        (λ tree. option_map (λ node. node.bytes) found
+        ≡ option_map (take (history_limit + 1)) (history_in tree))) }
     ensures faults { IfErr result (IsFaultOf (H.state host.old) (H.state host.new)) }
 
     ensures trees { SameOfAll (H.state host.old).told (H.state host.new).told }

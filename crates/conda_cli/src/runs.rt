@@ -1,7 +1,8 @@
 ghost use Rattle.std.specs.Prelude.{◌≡◌, ◌≢◌, ℕ, List, Ok, false, map, string_bytes};
 ghost use Rattle.conda_dev.specs.Hosts.{SameOfAll};
 ghost use Rattle.conda_words.specs.Reading.{words_read};
-ghost use Rattle.conda_cli.specs.Answers.{Gives, IsListAnswer, IsRefusal, Lists, answer_of, devices};
+ghost use Rattle.conda_cli.specs.Answers.{AnswersWith, IsListAnswer, IsRefusal, Lists};
+ghost use Rattle.conda_cli.specs.Answers.{answer_of, devices};
 ghost use Rattle.conda_cli.specs.Runs.{IsRead, Runs, waits};
 
 use crate::fault::Fault;
@@ -47,7 +48,8 @@ const UNBUILT: Fault = Fault::Usage {
 /// Puts out a refusal, and leaves the host as it is.
 fn refuse<H: Host + Drop, O: Out>(alloc: Global, fault: Fault, host: H, out: &mut O) -> Ended<H>
     requires { fault ≢ Fault.NoEnv }
-    ensures answers { Gives (IsRefusal fault) result.status (O.state out.old) (O.state out.new) }
+    ensures answers { AnswersWith (IsRefusal fault) result.status
+        (O.state out.old) (O.state out.new) }
     ensures host { result.host ≡ host }
 {
     let status = give_fault(alloc, out, fault);

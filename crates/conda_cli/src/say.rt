@@ -1,6 +1,6 @@
 ghost use Rattle.std.specs.Prelude.{◌≡◌, ◌⊎◌, ◌≢◌, IsErrOf, IsSome, [], unwrap_or};
 ghost use Rattle.std.specs.Option.{option_copied};
-ghost use Rattle.conda_cli.specs.Answers.{Gives, IsGiven, IsRefusal, answer_of, refusal};
+ghost use Rattle.conda_cli.specs.Answers.{AnswersWith, IsGiven, IsRefusal, answer_of, refusal};
 
 use crate::fault::{Fault, fault_line};
 use conda_dev::Out;
@@ -30,7 +30,7 @@ pub fn give<O: Out>(
     prefix: Option<&Prefix>,
 ) -> u8
     requires { IsErrOf report Fault.NoEnv → IsSome prefix }
-    ensures { Gives
+    ensures { AnswersWith
         (λ answer. (answer ≡ answer_of report (unwrap_or (option_copied prefix.entry) []))
         ⊎ (answer ≡ refusal Fault.Memory []))
         result (O.state out.old) (O.state out.new) }
@@ -47,7 +47,7 @@ pub fn give<O: Out>(
 /// Puts out the line of a fault that belongs to no prefix, and answers the status of the run.
 pub fn give_fault<O: Out>(alloc: Global, out: &mut O, fault: Fault) -> u8
     requires { fault ≢ Fault.NoEnv }
-    ensures { Gives (IsRefusal fault) result (O.state out.old) (O.state out.new) }
+    ensures { AnswersWith (IsRefusal fault) result (O.state out.old) (O.state out.new) }
 {
     give(alloc, out, Err(fault), None)
 }

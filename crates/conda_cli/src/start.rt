@@ -25,7 +25,8 @@ pub fn asked_text(words: &[String]) -> Option<&'static str>
     }
 }
 
-/// The folder that `--root DIR` in front names, else the empty text; and the words that are left. It takes no memory.
+/// The folder that `--root DIR` in front names, else the empty text; and the words that are left. It
+/// takes no memory.
 pub fn split_root(words: &[String]) -> (&str, &[String])
     ensures root { result.0.now ≡ (rooted (map string_bytes words.now)).0 }
     ensures rest { map string_bytes result.1.now ≡ (rooted (map string_bytes words.now)).1 }

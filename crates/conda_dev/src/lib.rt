@@ -1,5 +1,5 @@
-//! The devices that the program works on, as traits whose contracts say what each call does and when
-//! it may fail, and a form of each in memory that fails at given calls.
+//! The devices that the program works on, as traits whose contracts say what each call does and
+//! when it may fail, and a form of each in memory that fails at given calls.
 #![tactic(auto)]
 
 mod clock;

@@ -223,7 +223,8 @@ pub fn first_places(
     prefixes: Vec<(Prefix, Tree)>,
 ) -> Result<BTreeMap<Prefix, Place>, AllocError>
     ensures trees { IfOk result (λ places. (prefix : List ℕ)
-        → told_in (place_at places.entries prefix) ≡ given prefixes.items (Some tree.empty) prefix) }
+        → told_in (place_at places.entries prefix)
+        ≡ given prefixes.items (Some tree.empty) prefix) }
     ensures free { IfOk result (λ places. (prefix : List ℕ)
         → lent_in (place_at places.entries prefix) ≡ false) }
 {

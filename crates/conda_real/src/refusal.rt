@@ -16,8 +16,8 @@ fn is_absent(error: &Error) -> bool
     )
 }
 
-/// Counts a call of the machine that was refused. Every answer that a call of the machine failed is made here.
-/// It takes no memory.
+/// Counts a call of the machine that was refused. Every answer that a call of the machine failed is
+/// made here. It takes no memory.
 pub fn refused(faults: &mut FaultCount) -> Failed
     ensures exact { faults.new.count ≡ one_more faults.old.count }
     ensures later { faults.old.count ≤ faults.new.count }
@@ -27,7 +27,8 @@ pub fn refused(faults: &mut FaultCount) -> Failed
     Failed
 }
 
-/// What a call of the machine came to: its value, or None where nothing is there. It takes no memory.
+/// What a call of the machine came to: its value, or None where nothing is there. It takes no
+/// memory.
 pub fn answered<T: Drop>(
     called: io::Result<T>,
     faults: &mut FaultCount,
