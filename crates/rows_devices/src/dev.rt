@@ -154,12 +154,23 @@ fn look_in_host(
     let mut prefixes = Vec::new(alloc);
     prefixes.push((prefix.clone()?, tree_of(alloc, tree)?))?;
     let mut host = MemHost::make(alloc, prefixes, plan_of(alloc, plan)?)?;
+    look_at_all(alloc, &mut host, &prefix, paths)
+}
+
+fn look_at_all<H: Host>(
+    alloc: Global,
+    host: &mut H,
+    prefix: &Prefix,
+    paths: &str,
+) -> Result<Option<String>, AllocError>
+    requires { (H.state host.old).lent prefix.now ≡ false }
+{
     let mut made = String::new(alloc);
     for path in paths.split_whitespace() {
         let Ok(path) = RelPath::read(alloc, path) else {
             return Ok(None);
         };
-        let seen = look_once(alloc, &mut host, &prefix, &path);
+        let seen = look_once(alloc, host, prefix, &path);
         push_look(&mut made, alloc, seen, host.faults())?;
     }
     Ok(Some(made))
