@@ -2,7 +2,7 @@
 use Rattle.std.proofs.Common.{inl, inr, [], ◌≡◌, ◌<◌, ℕ, List, Option, Some, None, refl, sym, ap, subst, ◌∙◌, arith}
 use Rattle.std.specs.Prelude.{IfSome, ◌⊎◌}
 use Rattle.conda_dev.specs.Fault.{Rose}
-use Rattle.conda_dev.specs.Hosts.{HostState, SameOfAll}
+use Rattle.conda_dev.specs.Hosts.{HostState}
 use Rattle.conda_dev.specs.Streams.{OutState}
 use Rattle.conda_dev.specs.Tree.{Tree}
 use Rattle.conda_history.specs.Blocks.{IsHistory}

@@ -1,4 +1,4 @@
-use Rattle.std.proofs.Common.{◌≡◌, ◌+◌, subst, sym, arith}
+use Rattle.std.proofs.Common.{◌≡◌, subst, arith}
 use Rattle.conda_dev.specs.Lanes.{LinesUp, one_more_lane, all_lanes}
 use Rattle.conda_real.specs.RealLanes.{number_of, lanes_of, faults_of}
 use Rattle.conda_real.proofs.host.all_lanes.Goals as goal
