@@ -3,11 +3,10 @@ use Rattle.std.proofs.Common.{inl, inr, ◌≡◌, ℕ, ◌+◌, ◌≤◌, ◌<
 use Rattle.std.specs.Prelude.{IfSome, ◌⊎◌}
 use Rattle.std.proofs.lemmas.List.{length-take, take_all}
 use Rattle.conda_path.specs.declared.values.Node.{Node}
-use Rattle.conda_dev.specs.Fault.{Rose}
+use Rattle.conda_dev.specs.Hosts.{HostState}
 use Rattle.conda_dev.specs.Tree.{Tree}
-use Rattle.conda_cli.specs.declared.fault.Fault.{Fault}
-use Rattle.conda_cli.specs.declared.fault.Fault.TheVariants.{BadHistory, EnvFault, HostFault, Memory}
-use Rattle.conda_cli.specs.Answers.{Answer, Counts, IsList, IsListAnswer, history_in, history_limit, refusal}
+use Rattle.conda_cli.specs.declared.fault.Fault.TheVariants.{BadHistory, Memory}
+use Rattle.conda_cli.specs.Answers.{Answer, IsList, IsListAnswer, history_in, history_limit, refusal}
 
 -- nothing was found of what is absent
 pub absent : (n : ℕ) (text : Option (List ℕ)) → None ≡ option_map (take n) text → text ≡ None
@@ -44,33 +43,20 @@ read_text n None short = refl
 read_text n (Some node) short = ap Some (sym (take_all n node.bytes short))
 
 -- the answer of what was read is the tree's, where it is told, or that there was no memory
-pub answer_told : (told : Option Tree) (prefix : List ℕ) (before now : Counts) (read : Option Node) (answer : Answer)
+pub answer_told : (told : Option Tree) (prefix : List ℕ) (before now : HostState) (read : Option Node) (answer : Answer)
+    → before.told prefix ≡ told
     → IfSome read (λ node. length node.bytes ≤ history_limit + 1)
     → IfSome told (λ tree. option_map (λ node. node.bytes) read ≡ option_map (take (history_limit + 1)) (history_in tree))
     → ((text : Option (List ℕ)) → option_map (λ node. node.bytes) read ≡ option_map (take (history_limit + 1)) text → IsList prefix text answer ⊎ (answer ≡ refusal Memory prefix))
-    → IsListAnswer prefix told before now answer
-answer_told None prefix before now read answer short is answers =
+    → IsListAnswer prefix before now answer
+answer_told None prefix before now read answer is short found answers =
     let text : Option (List ℕ) = option_map (λ node. node.bytes) read in
-    elim (answers text (read_text (history_limit + 1) read short)) as (λ _. IsListAnswer prefix None before now answer) [
-      | inl lists ↦ inl (text, tt, lists)
-      | inr memory ↦ inr (inr (inr memory))
+    elim (answers text (read_text (history_limit + 1) read short)) as (λ _. IsListAnswer prefix before now answer) [
+      | inl lists ↦ inl (text, rw is tt, lists)
+      | inr memory ↦ inr (Memory, tt, memory)
     ]
-answer_told (Some tree) prefix before now read answer short is answers =
-    elim (answers (history_in tree) is) as (λ _. IsListAnswer prefix (Some tree) before now answer) [
-      | inl lists ↦ inl (history_in tree, refl, lists)
-      | inr memory ↦ inr (inr (inr memory))
-    ]
-
--- the answer of a fault
-pub answer_fault : (told : Option Tree) (prefix : List ℕ) (before now : Counts) (fault : Fault)
-    → (fault ≡ HostFault) ⊎ (fault ≡ EnvFault) ⊎ (fault ≡ Memory)
-    → (fault ≡ HostFault → Rose before.host now.host) → (fault ≡ EnvFault → Rose before.lanes now.lanes)
-    → IsListAnswer prefix told before now (refusal fault prefix)
-answer_fault told prefix before now fault which host lanes =
-    elim which as (λ _. IsListAnswer prefix told before now (refusal fault prefix)) [
-      | inl h ↦ inr (inl (ap (λ f. refusal f prefix) h, host h))
-      | inr rest ↦ elim rest as (λ _. IsListAnswer prefix told before now (refusal fault prefix)) [
-        | inl e ↦ inr (inr (inl (ap (λ f. refusal f prefix) e, lanes e)))
-        | inr m ↦ inr (inr (inr (ap (λ f. refusal f prefix) m)))
-      ]
+answer_told (Some tree) prefix before now read answer is short found answers =
+    elim (answers (history_in tree) found) as (λ _. IsListAnswer prefix before now answer) [
+      | inl lists ↦ inl (history_in tree, rw is refl, lists)
+      | inr memory ↦ inr (Memory, tt, memory)
     ]

@@ -6,8 +6,10 @@ use Rattle.std.specs.Ordering.{nat_cmp}
 use Rattle.std.specs.Cmp.Lexicographic.{slice_cmp}
 use Rattle.std.specs.List.Sorted.{IsStrictlySortedBy}
 use Rattle.conda_dev.specs.Fault.{Rose}
-use Rattle.conda_dev.specs.Hosts.{SameOfAll}
-use Rattle.conda_dev.specs.Streams.{appended}
+use Rattle.conda_dev.specs.declared.fault.DeviceErr.{DeviceErr}
+use Rattle.conda_dev.specs.declared.fault.DeviceErr.TheVariants as lane
+use Rattle.conda_dev.specs.Hosts.{HostState}
+use Rattle.conda_dev.specs.Streams.{OutState, appended}
 use Rattle.conda_dev.specs.Tree.{Tree}
 use Rattle.conda_history.specs.Blocks.{IsHistory}
 use Rattle.conda_history.specs.Sets.{IsIn, IsLeft}
@@ -70,61 +72,74 @@ IsList prefix (Some text) answer =
     (IsNoHistory text × (answer ≡ refusal (BadHistory 1) prefix))
     ⊎ ((blocks : List Block) × IsHistoryOf text blocks × IsReportOf prefix blocks answer)
 
+-- ---- what a run meets
+
+-- what the host and the output tell of themselves
+pub record Told : Type 0 where
+  pub host : HostState
+  pub output : OutState
+
+-- the very host, clock and input of a run, and what is told
+pub record Devices (H K I : Type 0) : Type 0 where
+  pub host : H
+  pub clock : K
+  pub input : I
+  pub told : Told
+
+abbrev pub devices : {H K I O : Type 0} → (H → HostState) → (O → OutState) → H → K → I → O → Devices H K I
+devices of_host of_output host clock input output =
+    record { host = host; clock = clock; input = input; told = record { host = of_host host; output = of_output output } }
+
 -- ---- why
 
--- the two counts of a host
-pub record Counts : Type 0 where
-  pub host : ℕ
-  pub lanes : ℕ
+-- a fault of which the count rose, or want of memory
+abbrev pub IsFaultOf : HostState → HostState → Fault → Type 0
+IsFaultOf before now HostFault = Rose before.faults now.faults
+IsFaultOf before now EnvFault = Rose before.lane_faults now.lane_faults
+IsFaultOf before now Memory = Unit {0}
+IsFaultOf before now _ = ⊥
+
+-- what a lane's answer is in a run
+abbrev pub lane_answer : {T : Type 0} → Result T DeviceErr → Result T Fault
+lane_answer (Ok x) = Ok x
+lane_answer (Err lane.Failed) = Err EnvFault
+lane_answer (Err lane.Memory) = Err Memory
 
 -- A run of `list` answers by the history, the tree's where it is told; or a fault of which the count rose; or that
 -- there was no memory.
-abbrev pub IsListAnswer : List ℕ → Option Tree → Counts → Counts → Answer → Type 0
-IsListAnswer prefix told before now answer =
-    ((found : Option (List ℕ)) × IfSome told (λ tree. found ≡ history_in tree) × IsList prefix found answer)
-    ⊎ ((answer ≡ refusal HostFault prefix) × Rose before.host now.host)
-    ⊎ ((answer ≡ refusal EnvFault prefix) × Rose before.lanes now.lanes)
-    ⊎ (answer ≡ refusal Memory prefix)
-
--- what an output tells, and its count of faults
-pub record Output : Type 0 where
-  pub told : Option (List ℕ)
-  pub faults : ℕ
+abbrev pub IsListAnswer : List ℕ → HostState → HostState → Answer → Type 0
+IsListAnswer prefix before now answer =
+    ((found : Option (List ℕ)) × IfSome (before.told prefix) (λ tree. found ≡ history_in tree) × IsList prefix found answer)
+    ⊎ ((fault : Fault) × IsFaultOf before now fault × (answer ≡ refusal fault prefix))
 
 -- all of an answer's text was put, and its status is the run's
-abbrev pub IsPut : Answer → ℕ → Output → Output → Type 0
+abbrev pub IsPut : Answer → ℕ → OutState → OutState → Type 0
 IsPut answer status before now = (status ≡ answer.status) × (now.told ≡ appended before.told answer.text)
 
 -- an answer was given: it was put; or the output failed, some first part of the text was put, and the status is 3
-abbrev pub IsGiven : Answer → ℕ → Output → Output → Type 0
+abbrev pub IsGiven : Answer → ℕ → OutState → OutState → Type 0
 IsGiven answer status before now =
     IsPut answer status before now
     ⊎ ((status ≡ 3) × Rose before.faults now.faults × (n : ℕ) × (now.told ≡ appended before.told (take n answer.text)))
 
 -- some answer of this kind was given
-abbrev pub Gives : (Answer → Type 0) → ℕ → Output → Output → Type 0
-Gives IsIt status before now = (answer : Answer) × IsIt answer × IsGiven answer status before now
+abbrev pub AnswersWith : (Answer → Type 0) → ℕ → OutState → OutState → Type 0
+AnswersWith IsIt status before now = (answer : Answer) × IsIt answer × IsGiven answer status before now
 
--- this fault's line was given, or there was no memory
-abbrev pub Refuses : Fault → ℕ → Output → Output → Type 0
-Refuses fault status before now = Gives (λ answer. (answer ≡ refusal fault []) ⊎ (answer ≡ refusal Memory [])) status before now
+-- this fault's line, or that there was no memory
+abbrev pub IsRefusal : Fault → Answer → Type 0
+IsRefusal fault answer = (answer ≡ refusal fault []) ⊎ (answer ≡ refusal Memory [])
 
 -- ---- a run of `list`
 
--- the trees that a host tells, its counts, and an output
-pub record Devices : Type 0 where
-  pub trees : List ℕ → Option Tree
-  pub counts : Counts
-  pub output : Output
-
 -- no count of faults rises
-pub record IsQuiet (before now : Devices) : Type 0 where
-  pub host : ¬ Rose before.counts.host now.counts.host
-  pub lanes : ¬ Rose before.counts.lanes now.counts.lanes
+pub record IsQuiet (before now : Told) : Type 0 where
+  pub host : ¬ Rose before.host.faults now.host.faults
+  pub lanes : ¬ Rose before.host.lane_faults now.host.lane_faults
   pub output : ¬ Rose before.output.faults now.output.faults
 
 -- an answer of this kind was put; or there was no memory
-abbrev pub EndsWith : (Answer → Type 0) → ℕ → Output → Output → Type 0
+abbrev pub EndsWith : (Answer → Type 0) → ℕ → OutState → OutState → Type 0
 EndsWith IsIt status before now = ((answer : Answer) × IsIt answer × IsPut answer status before now) ⊎ (status ≡ 5)
 
 -- the history is there, and is longer than its limit or of another form
@@ -137,7 +152,7 @@ IsGood found blocks = (text : List ℕ) × (found ≡ Some text) × IsHistoryOf 
 
 -- What a run of `list` does, of a prefix whose tree is told, where no count of faults rises. Each answer comes exactly
 -- where it is due: that there is no environment, that its history is bad, and the report of the history's set.
-pub record ListsExactly (prefix : List ℕ) (found : Option (List ℕ)) (status : ℕ) (before now : Output) : Type 0 where
+pub record ListsExactly (prefix : List ℕ) (found : Option (List ℕ)) (status : ℕ) (before now : OutState) : Type 0 where
   pub absent : found ≡ None → EndsWith (λ answer. answer ≡ refusal NoEnv prefix) status before now
   pub absent_only : status ≡ 1 → found ≡ None
   pub bad : IsBad found → EndsWith (λ answer. answer ≡ refusal (BadHistory 1) prefix) status before now
@@ -146,14 +161,12 @@ pub record ListsExactly (prefix : List ℕ) (found : Option (List ℕ)) (status 
       → EndsWith (IsReportOf prefix blocks) status before now
   pub good_only : status ≡ 0 → (blocks : List Block) × IsGood found blocks
 
--- what a run of `list` on a prefix does
-pub record RunsList (prefix : List ℕ) (status : ℕ) (before now : Devices) : Type 0 where
+-- what a run of `list` on a prefix tells
+pub record Lists (prefix : List ℕ) (status : ℕ) (before now : Told) : Type 0 where
   -- some answer is given, with its cause
-  pub answers : Gives (IsListAnswer prefix (before.trees prefix) before.counts now.counts) status before.output now.output
-  pub exactly : (tree : Tree) → before.trees prefix ≡ Some tree → IsQuiet before now
+  pub answers : AnswersWith (IsListAnswer prefix before.host now.host) status before.output now.output
+  pub exactly : (tree : Tree) → before.host.told prefix ≡ Some tree → IsQuiet before now
       → ListsExactly prefix (history_in tree) status before.output now.output
   -- a fault only where a count rose
-  pub faults : status ≡ 3 → Rose before.counts.host now.counts.host ⊎ Rose before.counts.lanes now.counts.lanes
+  pub faults : status ≡ 3 → Rose before.host.faults now.host.faults ⊎ Rose before.host.lane_faults now.host.lane_faults
       ⊎ Rose before.output.faults now.output.faults
-  -- the trees stay
-  pub trees : SameOfAll before.trees now.trees

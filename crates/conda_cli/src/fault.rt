@@ -26,7 +26,8 @@ fn word_of(why: Why) -> &'static str
 /// Why a command has no report.
 #[derive(Clone, Copy, Debug, PartialEq, Eq)]
 pub enum Fault {
-    /// The words are no command, or none that is built: the number of the first offending word, from 0, and why.
+    /// The words are no command, or none that is built: the number of the first offending word, from
+    /// 0, and why.
     Usage { at: u64, why: Why },
     /// There is no environment at the prefix.
     NoEnv,
@@ -81,7 +82,8 @@ pub fn fault_line(
     prefix: Option<&Prefix>,
 ) -> Result<String, AllocError>
     requires { fault.now ≡ Fault.NoEnv → IsSome prefix }
-    ensures { IfOk result (λ line. string_bytes line ≡ fault_text fault.now (unwrap_or (option_copied prefix.entry) [])) }
+    ensures { IfOk result (λ line. string_bytes line
+        ≡ fault_text fault.now (unwrap_or (option_copied prefix.entry) [])) }
 {
     match *fault {
         Fault::Usage { at, why } => usage_line(alloc, at, why),

@@ -1,9 +1,9 @@
-ghost use Rattle.std.specs.Prelude.{◌≡◌, ◌≤◌, ◌+◌, ◌⊎◌, IfErr, IfOk, IfSome, IsErrOf, false, length, option_map, take};
-ghost use Rattle.conda_dev.specs.Fault.{Rose};
+ghost use Rattle.std.specs.Prelude.{◌≡◌, ◌≤◌, ◌+◌, IfErr, IfOk, IfSome, false, length};
+ghost use Rattle.std.specs.Prelude.{option_map, take};
 ghost use Rattle.conda_dev.specs.Hosts.{SameOfAll};
 ghost use Rattle.conda_dev.specs.Tree.{cut_node};
 ghost use Rattle.std.specs.FinMap as map;
-ghost use Rattle.conda_cli.specs.Answers.{history_in, history_limit};
+ghost use Rattle.conda_cli.specs.Answers.{IsFaultOf, history_in, history_limit, lane_answer};
 
 use crate::fault::Fault;
 use conda_dev::{DeviceErr, Host, Lane};
@@ -21,15 +21,13 @@ fn read_first<H: Host>(
     path: &RelPath,
     max: u64,
 ) -> Result<Option<Node>, Fault>
-    requires { H.lent host.old prefix.now ≡ false }
+    requires { (H.state host.old).lent prefix.now ≡ false }
     ensures bound { IfOk result (λ read. IfSome read (λ node. length node.bytes ≤ max)) }
-    ensures node { IfOk result (λ read. IfSome (H.told host.old prefix.now)
+    ensures node { IfOk result (λ read. IfSome ((H.state host.old).told prefix.now)
         (λ tree. read ≡ option_map (cut_node max) (map.get tree path.now))) }
-    ensures host_fault { IsErrOf result Fault.HostFault → Rose (H.faults host.old) (H.faults host.new) }
-    ensures env_fault { IsErrOf result Fault.EnvFault → Rose (H.lane_faults host.old) (H.lane_faults host.new) }
-    ensures faults { IfErr result (λ fault. (fault ≡ Fault.HostFault) ⊎ (fault ≡ Fault.EnvFault) ⊎ (fault ≡ Fault.Memory)) }
-    ensures trees { SameOfAll (H.told host.old) (H.told host.new) }
-    ensures lent { SameOfAll (H.lent host.old) (H.lent host.new) }
+    ensures faults { IfErr result (IsFaultOf (H.state host.old) (H.state host.new)) }
+    ensures trees { SameOfAll (H.state host.old).told (H.state host.new).told }
+    ensures lent { SameOfAll (H.state host.old).lent (H.state host.new).lent }
 {
     let mut lanes = match host.lanes(alloc, prefix, "", 1) {
         Ok(lanes) => lanes,
@@ -38,30 +36,38 @@ fn read_first<H: Host>(
     };
     let read = lanes[0].read(alloc, path, max);
     host.take_back(prefix, lanes);
-    match read {
-        Ok(found) => Ok(found),
+    lane_answer(read)
+}
+
+/// What a lane's answer is in a run.
+fn lane_answer<T: Drop>(answer: Result<T, DeviceErr>) -> Result<T, Fault>
+    ensures { result ≡ lane_answer answer }
+{
+    match answer {
+        Ok(value) => Ok(value),
         Err(DeviceErr::Failed) => Err(Fault::EnvFault),
         Err(DeviceErr::Memory) => Err(Fault::Memory),
     }
 }
 
-/// The first bytes of the history at a prefix, one more than its limit at the most, or None where it is absent.
+/// The first bytes of the history at a prefix, one more than its limit at the most, or None where it
+/// is absent.
 pub fn find_history<H: Host>(
     alloc: Global,
     host: &mut H,
     prefix: &Prefix,
 ) -> Result<Option<Node>, Fault>
-    requires { H.lent host.old prefix.now ≡ false }
+    requires { (H.state host.old).lent prefix.now ≡ false }
 
-    ensures bound { IfOk result (λ found. IfSome found (λ node. length node.bytes ≤ history_limit + 1)) }
-    ensures found { IfOk result (λ found. IfSome (H.told host.old prefix.now)
-        (λ tree. option_map (λ node. node.bytes) found ≡ option_map (take (history_limit + 1)) (history_in tree))) }
-    ensures host_fault { IsErrOf result Fault.HostFault → Rose (H.faults host.old) (H.faults host.new) }
-    ensures env_fault { IsErrOf result Fault.EnvFault → Rose (H.lane_faults host.old) (H.lane_faults host.new) }
-    ensures faults { IfErr result (λ fault. (fault ≡ Fault.HostFault) ⊎ (fault ≡ Fault.EnvFault) ⊎ (fault ≡ Fault.Memory)) }
+    ensures bound { IfOk result (λ found.
+        IfSome found (λ node. length node.bytes ≤ history_limit + 1)) }
+    ensures found { IfOk result (λ found. IfSome ((H.state host.old).told prefix.now)
+        (λ tree. option_map (λ node. node.bytes) found
+        ≡ option_map (take (history_limit + 1)) (history_in tree))) }
+    ensures faults { IfErr result (IsFaultOf (H.state host.old) (H.state host.new)) }
 
-    ensures trees { SameOfAll (H.told host.old) (H.told host.new) }
-    ensures lent { SameOfAll (H.lent host.old) (H.lent host.new) }
+    ensures trees { SameOfAll (H.state host.old).told (H.state host.new).told }
+    ensures lent { SameOfAll (H.state host.old).lent (H.state host.new).lent }
 {
     let path = match RelPath::read(alloc, "conda-meta/history") {
         Ok(path) => path,

@@ -7,11 +7,11 @@ mod listing;
 mod report;
 mod runs;
 mod say;
+mod start;
 mod words;
 
 pub use conda_words::{Command, Verb, Why};
 pub use fault::{Fault, fault_line};
 pub use runs::{Ended, run, run_one};
-
-#[cfg(test)]
-mod tests;
+pub use say::{give_fault, put};
+pub use start::{HELP, VERSION, asked_text, split_root};

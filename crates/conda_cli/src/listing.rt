@@ -10,7 +10,8 @@ use std::alloc::Global;
 
 /// The report of a history's set.
 fn report_of(alloc: Global, prefix: &Prefix, history: &History) -> Result<String, Fault>
-    ensures { IsReportOf prefix.now history.now.blocks (answer_of result prefix.now) ⊎ (result ≡ Err Fault.Memory) }
+    ensures { IsReportOf prefix.now history.now.blocks (answer_of result prefix.now)
+        ⊎ (result ≡ Err Fault.Memory) }
 {
     let mut dists = match history.set(alloc) {
         Ok(set) => set.into_vec(),
@@ -27,8 +28,10 @@ fn report_of(alloc: Global, prefix: &Prefix, history: &History) -> Result<String
 
 /// Lists the set of the history whose first bytes were found, one more than its limit at the most.
 pub fn list_of(alloc: Global, prefix: &Prefix, found: Option<Node>) -> Result<String, Fault>
-    ensures { (text : Option (List ℕ)) → option_map (λ node. node.bytes) found ≡ option_map (take (history_limit + 1)) text
-        → IsList prefix.now text (answer_of result prefix.now) ⊎ (answer_of result prefix.now ≡ refusal Fault.Memory prefix.now) }
+    ensures { (text : Option (List ℕ))
+        → option_map (λ node. node.bytes) found ≡ option_map (take (history_limit + 1)) text
+        → IsList prefix.now text (answer_of result prefix.now)
+        ⊎ (answer_of result prefix.now ≡ refusal Fault.Memory prefix.now) }
 {
     let node = match found {
         Some(node) => node,

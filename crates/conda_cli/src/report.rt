@@ -36,7 +36,8 @@ fn push_dist_line(text: &mut String, dist: &Dist) -> Result<(), AllocError>
     Ok(())
 }
 
-/// The report of `list`: a line that names the prefix, and a line of name, version and build for each dist.
+/// The report of `list`: a line that names the prefix, and a line of name, version and build for each
+/// dist.
 pub fn list_report(alloc: Global, prefix: &Prefix, dists: &[Dist]) -> Result<String, AllocError>
     ensures { IfOk result (λ text. string_bytes text ≡ list_text prefix.now dists.now) }
 {

@@ -1,16 +1,17 @@
-ghost use Rattle.std.specs.Prelude.{◌≡◌, ◌≢◌, ◌⊎◌, ℕ, [], IfErr, IfOk, IfSome, List, None, OnOk, Some, false, map, string_bytes};
+ghost use Rattle.std.specs.Prelude.{◌≡◌, ◌≢◌, ℕ, List, Ok, false, map, string_bytes};
 ghost use Rattle.conda_dev.specs.Hosts.{SameOfAll};
-ghost use Rattle.conda_words.specs.Commands.{command_of};
-ghost use Rattle.conda_words.specs.Nested.{words_fault};
-ghost use Rattle.conda_cli.specs.Answers.{Gives, IsListAnswer, Refuses, RunsList, answer_of, refusal};
-ghost use Rattle.conda_cli.specs.Words.{IsRead, listed, waits};
+ghost use Rattle.conda_words.specs.Reading.{words_read};
+ghost use Rattle.conda_cli.specs.Answers.{AnswersWith, IsListAnswer, IsRefusal, Lists};
+ghost use Rattle.conda_cli.specs.Answers.{answer_of, devices};
+ghost use Rattle.conda_cli.specs.Runs.{IsRead, Runs, waits};
 
 use crate::fault::Fault;
 use crate::history_file::find_history;
 use crate::listing::list_of;
-use crate::say::give;
+use crate::say::{give, give_fault};
 use crate::words::{listed, waits};
 use conda_dev::{Clock, Host, In, Out};
+use conda_history::history_laws;
 use conda_path::Prefix;
 use conda_words::{Command, Why, WordsErr, read_words};
 use std::alloc::Global;
@@ -26,13 +27,11 @@ pub struct Ended<H> {
 
 /// Lists the packages of the environment at a prefix.
 fn list<H: Host>(alloc: Global, host: &mut H, prefix: &Prefix) -> Result<String, Fault>
-    requires { H.lent host.old prefix.now ≡ false }
-    ensures answer { IsListAnswer prefix.now (H.told host.old prefix.now)
-        (record { host = H.faults host.old; lanes = H.lane_faults host.old })
-        (record { host = H.faults host.new; lanes = H.lane_faults host.new })
+    requires { (H.state host.old).lent prefix.now ≡ false }
+    ensures answer { IsListAnswer prefix.now (H.state host.old) (H.state host.new)
         (answer_of result prefix.now) }
-    ensures trees { SameOfAll (H.told host.old) (H.told host.new) }
-    ensures lent { SameOfAll (H.lent host.old) (H.lent host.new) }
+    ensures trees { SameOfAll (H.state host.old).told (H.state host.new).told }
+    ensures lent { SameOfAll (H.state host.old).lent (H.state host.new).lent }
 {
     match find_history(alloc, host, prefix) {
         Ok(found) => list_of(alloc, prefix, found),
@@ -49,12 +48,11 @@ const UNBUILT: Fault = Fault::Usage {
 /// Puts out a refusal, and leaves the host as it is.
 fn refuse<H: Host + Drop, O: Out>(alloc: Global, fault: Fault, host: H, out: &mut O) -> Ended<H>
     requires { fault ≢ Fault.NoEnv }
-    ensures refuses { Refuses fault result.status
-        (record { told = O.told out.old; faults = O.faults out.old })
-        (record { told = O.told out.new; faults = O.faults out.new }) }
+    ensures answers { AnswersWith (IsRefusal fault) result.status
+        (O.state out.old) (O.state out.new) }
     ensures host { result.host ≡ host }
 {
-    let status = give(alloc, out, Err(fault), None);
+    let status = give_fault(alloc, out, fault);
     Ended { status, host }
 }
 
@@ -65,27 +63,22 @@ fn run_list<H: Host + Drop, O: Out>(
     host: H,
     out: &mut O,
 ) -> Ended<H>
-    requires { H.lent host prefix.now ≡ false }
-    ensures list { RunsList prefix.now result.status
-        (record {
-          trees = H.told host;
-          counts = record { host = H.faults host; lanes = H.lane_faults host };
-          output = record { told = O.told out.old; faults = O.faults out.old };
-        })
-        (record {
-          trees = H.told result.host;
-          counts = record { host = H.faults result.host; lanes = H.lane_faults result.host };
-          output = record { told = O.told out.new; faults = O.faults out.new };
-        }) }
-    ensures lent { SameOfAll (H.lent host) (H.lent result.host) }
+    requires { (H.state host).lent prefix.now ≡ false }
+    ensures lists { Lists prefix.now result.status
+        (record { host = H.state host; output = O.state out.old })
+        (record { host = H.state result.host; output = O.state out.new }) }
+    ensures trees { SameOfAll (H.state host).told (H.state result.host).told }
+    ensures lent { SameOfAll (H.state host).lent (H.state result.host).lent }
 {
+    history_laws();
     let mut host = host;
     let report = list(alloc, &mut host, prefix);
     let status = give(alloc, out, report, Some(prefix));
     Ended { status, host }
 }
 
-/// Runs one command that `read_words` gave and that doesn't run in several threads. It waits for nobody.
+/// Runs one command that `read_words` gave and that doesn't run in several threads. It waits for
+/// nobody.
 pub fn run_one<H: Host + Drop, K: Clock, I: In, O: Out, R: Threads>(
     rt: &R,
     alloc: Global,
@@ -97,25 +90,10 @@ pub fn run_one<H: Host + Drop, K: Clock, I: In, O: Out, R: Threads>(
 ) -> Ended<H>
     requires read { IsRead command.now }
     requires alone { waits command.now.verb ≡ false }
-    requires lent { (prefix : List ℕ) → H.lent host prefix ≡ false }
-    ensures list { IfSome (listed command.now) (λ prefix. RunsList prefix result.status
-        (record {
-          trees = H.told host;
-          counts = record { host = H.faults host; lanes = H.lane_faults host };
-          output = record { told = O.told out.old; faults = O.faults out.old };
-        })
-        (record {
-          trees = H.told result.host;
-          counts = record { host = H.faults result.host; lanes = H.lane_faults result.host };
-          output = record { told = O.told out.new; faults = O.faults out.new };
-        })) }
-    ensures unbuilt { listed command.now ≡ None → Refuses (Fault.Usage 0 Why.Unknown) result.status
-        (record { told = O.told out.old; faults = O.faults out.old })
-        (record { told = O.told out.new; faults = O.faults out.new }) }
-
-    // Whatever the command, every tree stays, and what was lent was taken back.
-    ensures trees { SameOfAll (H.told host) (H.told result.host) }
-    ensures lent { SameOfAll (H.lent host) (H.lent result.host) }
+    requires lent { (prefix : List ℕ) → (H.state host).lent prefix ≡ false }
+    ensures { Runs (Ok command.now) result.status
+        (devices H.state O.state host clock.old input.old out.old)
+        (devices H.state O.state result.host clock.new input.new out.new) }
 {
     match listed(command) {
         Some(prefix) => run_list(alloc, prefix, host, out),
@@ -133,30 +111,10 @@ pub fn run<H: Host + Drop, K: Clock, I: In, O: Out, R: Threads + Wait>(
     input: &mut I,
     out: &mut O,
 ) -> Ended<H>
-    requires { (prefix : List ℕ) → H.lent host prefix ≡ false }
-    ensures usage { IfSome (words_fault (map string_bytes words.now)) (λ found. Refuses (Fault.Usage found.0 found.1) result.status
-        (record { told = O.told out.old; faults = O.faults out.old })
-        (record { told = O.told out.new; faults = O.faults out.new })) }
-    ensures unbuilt { words_fault (map string_bytes words.now) ≡ None → listed (command_of (map string_bytes words.now)) ≡ None
-        → Refuses (Fault.Usage 0 Why.Unknown) result.status
-        (record { told = O.told out.old; faults = O.faults out.old })
-        (record { told = O.told out.new; faults = O.faults out.new }) }
-    ensures list { words_fault (map string_bytes words.now) ≡ None
-        → IfSome (listed (command_of (map string_bytes words.now))) (λ prefix. RunsList prefix result.status
-        (record {
-          trees = H.told host;
-          counts = record { host = H.faults host; lanes = H.lane_faults host };
-          output = record { told = O.told out.old; faults = O.faults out.old };
-        })
-        (record {
-          trees = H.told result.host;
-          counts = record { host = H.faults result.host; lanes = H.lane_faults result.host };
-          output = record { told = O.told out.new; faults = O.faults out.new };
-        })) }
-
-    // Whatever the words, every tree stays, and what was lent was taken back.
-    ensures trees { SameOfAll (H.told host) (H.told result.host) }
-    ensures lent { SameOfAll (H.lent host) (H.lent result.host) }
+    requires { (prefix : List ℕ) → (H.state host).lent prefix ≡ false }
+    ensures { Runs (words_read (map string_bytes words.now)) result.status
+        (devices H.state O.state host clock.old input.old out.old)
+        (devices H.state O.state result.host clock.new input.new out.new) }
 {
     match read_words(alloc, words) {
         Ok(command) => {

@@ -1,6 +1,6 @@
-ghost use Rattle.std.specs.Prelude.{◌≡◌, ◌⊎◌, IsErrOf, IsSome, [], unwrap_or};
+ghost use Rattle.std.specs.Prelude.{◌≡◌, ◌⊎◌, ◌≢◌, IsErrOf, IsSome, [], unwrap_or};
 ghost use Rattle.std.specs.Option.{option_copied};
-ghost use Rattle.conda_cli.specs.Answers.{Gives, IsGiven, answer_of, refusal};
+ghost use Rattle.conda_cli.specs.Answers.{AnswersWith, IsGiven, IsRefusal, answer_of, refusal};
 
 use crate::fault::{Fault, fault_line};
 use conda_dev::Out;
@@ -11,10 +11,9 @@ use std::alloc::Global;
 const WRITE_FAULT: u8 = 3;
 
 /// Puts a text out that goes with a status, and answers the status of the run. It takes no memory.
-fn put<O: Out>(out: &mut O, status: u8, text: &str) -> u8
+pub fn put<O: Out>(out: &mut O, status: u8, text: &str) -> u8
     ensures { IsGiven (record { status = status; text = text.now }) result
-        (record { told = O.told out.old; faults = O.faults out.old })
-        (record { told = O.told out.new; faults = O.faults out.new }) }
+        (O.state out.old) (O.state out.new) }
 {
     match out.put(text.as_bytes()) {
         Ok(()) => status,
@@ -22,8 +21,8 @@ fn put<O: Out>(out: &mut O, status: u8, text: &str) -> u8
     }
 }
 
-/// Puts out the text of a report, or the line of a fault in a run on this prefix. Where there is no memory for the
-/// line it says that.
+/// Puts out the text of a report, or the line of a fault in a run on this prefix. Where there is no
+/// memory for the line it says that.
 pub fn give<O: Out>(
     alloc: Global,
     out: &mut O,
@@ -31,11 +30,10 @@ pub fn give<O: Out>(
     prefix: Option<&Prefix>,
 ) -> u8
     requires { IsErrOf report Fault.NoEnv → IsSome prefix }
-    ensures { Gives
-        (λ answer. (answer ≡ answer_of report (unwrap_or (option_copied prefix.entry) [])) ⊎ (answer ≡ refusal Fault.Memory []))
-        result
-        (record { told = O.told out.old; faults = O.faults out.old })
-        (record { told = O.told out.new; faults = O.faults out.new }) }
+    ensures { AnswersWith
+        (λ answer. (answer ≡ answer_of report (unwrap_or (option_copied prefix.entry) []))
+        ⊎ (answer ≡ refusal Fault.Memory []))
+        result (O.state out.old) (O.state out.new) }
 {
     match report {
         Ok(text) => put(out, 0, text.as_str()),
@@ -44,4 +42,12 @@ pub fn give<O: Out>(
             Err(_) => put(out, Fault::Memory.status(), "out of memory\n"),
         },
     }
+}
+
+/// Puts out the line of a fault that belongs to no prefix, and answers the status of the run.
+pub fn give_fault<O: Out>(alloc: Global, out: &mut O, fault: Fault) -> u8
+    requires { fault ≢ Fault.NoEnv }
+    ensures { AnswersWith (IsRefusal fault) result (O.state out.old) (O.state out.new) }
+{
+    give(alloc, out, Err(fault), None)
 }

@@ -1,12 +1,13 @@
 ghost use Rattle.std.specs.Prelude.{◌≡◌, MatchOption, None, Some};
-ghost use Rattle.conda_cli.specs.Words.{listed, waits};
+ghost use Rattle.conda_cli.specs.Runs.{listed, waits};
 
 use conda_path::Prefix;
 use conda_words::{Command, Verb};
 
 /// The prefix that a command lists, where it is `list -p PREFIX`. It takes no memory.
 pub fn listed(command: &Command) -> Option<&Prefix>
-    ensures { MatchOption result (listed command.now ≡ None) (λ prefix. listed command.now ≡ Some prefix.now) }
+    ensures { MatchOption result (listed command.now.verb command.now.prefixes ≡ None)
+        (λ prefix. listed command.now.verb command.now.prefixes ≡ Some prefix.now) }
 {
     match (command.verb, command.prefixes.as_slice()) {
         (Verb::List, [prefix]) => Some(prefix),

@@ -1,5 +1,5 @@
 -- What lanes have together, and what is left of it when they are lent anew.
-use Rattle.std.proofs.Common.{◌≡◌, ◌==◌, ℕ, ◌+◌, ◌<◌, ◌≤◌, List, [], ◌∷◌, ◌++◌, length, map, Bool, true, false, cond, Option, Some, None, All, nat_lt, ◌||◌, option_map, eq-eqb, refl, ap, sym, ◌∙◌, arith}
+use Rattle.std.proofs.Common.{◌≡◌, ◌==◌, ℕ, ◌+◌, ◌<◌, ◌≤◌, List, [], ◌∷◌, ◌++◌, map, Bool, true, false, cond, Option, Some, None, nat_lt, ◌||◌, option_map, eq-eqb, refl, ap, sym, ◌∙◌, arith}
 use Rattle.std.specs.Ordering.{nat_cmp, eq_by_cmp}
 use Rattle.std.proofs.lemmas.Bool.Decides.{nat_tests}
 use Rattle.std.specs.Cmp.Lexicographic.{slice_cmp, nat_list_cmp_total}
@@ -9,10 +9,9 @@ use Rattle.std.proofs.lemmas.Map.Lookups.{exact_bytes}
 use Rattle.conda_path.specs.declared.values.Node.{Node}
 use Rattle.conda_path.specs.Lanes.{lane_number}
 use Rattle.conda_dev.specs.declared.mem_lane.MemLane.{MemLane}
-use Rattle.conda_dev.specs.Lanes.{InPlace}
 use Rattle.conda_dev.specs.Tree.{Tree, first_of, in_share, joined, together}
-use Rattle.conda_dev.proofs.LaneLemmas.{LinesUp, no_lanes, one_more_lane, all_lanes}
-use Rattle.conda_dev.specs.Memory.{node_at, told_of, trees_of}
+use Rattle.conda_dev.specs.Lanes.{AreNew, LinesUp, no_lanes, one_more_lane, all_lanes}
+use Rattle.conda_dev.specs.Memory.{faults_of, lanes_of, node_at, number_of, told_of, trees_of}
 
 first_none : (found : Option Node) → first_of found None ≡ found
 first_none None = refl
@@ -65,7 +64,7 @@ all_below l n h = grind (arith, nat_tests)
 -- ---- lanes that are lent one after another
 
 abbrev pub IsLinedUp : ℕ → ℕ → List MemLane → Type 0
-IsLinedUp = LinesUp (λ (lane : MemLane). lane.number) (λ lane. lane.lanes) (λ lane. lane.meter.faults)
+IsLinedUp = LinesUp number_of lanes_of faults_of
 
 pub record SoFar (number lanes : ℕ) (from made : List MemLane) : Type 0 where
   pub lined : IsLinedUp number lanes made
@@ -73,16 +72,16 @@ pub record SoFar (number lanes : ℕ) (from made : List MemLane) : Type 0 where
 
 pub begins : (lanes : ℕ) (from : List MemLane) → SoFar 0 lanes from []
 begins lanes from = record {
-  lined = no_lanes (λ (lane : MemLane). lane.number) (λ lane. lane.lanes) (λ lane. lane.meter.faults) lanes;
+  lined = no_lanes number_of lanes_of faults_of lanes;
   nodes = λ q. sym (ap (λ b. cond b (node_at (trees_of from) q) None) (none_below (lane_number q lanes)));
 }
 
 pub goes_on : (number lanes : ℕ) (from made : List MemLane) (lane : MemLane) → SoFar number lanes from made
-    → lane.number ≡ number → lane.lanes ≡ lanes → lane.meter.faults ≡ 0
+    → lane.number ≡ number → lane.lanes ≡ lanes → lane.meter.faults.count ≡ 0
     → ((q : List ℕ) → trees.get lane.tree q ≡ in_share number lanes q (node_at (trees_of from) q))
     → SoFar (number + 1) lanes from (made ++ lane ∷ [])
 goes_on number lanes from made lane far its_number its_lanes its_faults its_nodes = record {
-  lined = one_more_lane (λ (lane : MemLane). lane.number) (λ lane. lane.lanes) (λ lane. lane.meter.faults) number lanes made lane far.lined its_number its_lanes its_faults;
+  lined = one_more_lane number_of lanes_of faults_of number lanes made lane far.lined its_number its_lanes its_faults;
   nodes = λ q.
       ap (λ ts. node_at ts q) (map-append (λ (l : MemLane). l.tree) made (lane ∷ [])) ∙ node_at-append (trees_of made) (lane.tree ∷ []) q
       ∙ ap (λ o. first_of o (first_of (trees.get lane.tree q) None)) (far.nodes q)
@@ -130,13 +129,10 @@ told_of-trees [] = refl
 told_of-trees (lane ∷ lanes) = ap (λ rest. Some lane.tree ∷ rest) (told_of-trees lanes)
 
 pub ended : (lanes : ℕ) (from made : List MemLane) → 1 ≤ lanes → SoFar lanes lanes from made
-    → (length made ≡ lanes) × InPlace (λ (lane : MemLane). lane.number) (λ lane. lane.lanes) made × All (λ (lane : MemLane). lane.meter.faults ≡ 0) made × (together (told_of made) ≡ together (told_of from))
+    → AreNew number_of lanes_of faults_of lanes made × (together (told_of made) ≡ together (told_of from))
 ended lanes from made some far =
-    let inside = λ (q : List ℕ). ap (λ b. cond b (node_at (trees_of from) q) None) (all_below (lane_number q lanes) lanes (omega arith)) in
-    let placed = all_lanes (λ (lane : MemLane). lane.number) (λ lane. lane.lanes) (λ lane. lane.meter.faults) lanes made far.lined in (
-      placed.0,
-      placed.1,
-      far.lined.unharmed,
+    let inside = λ (q : List ℕ). ap (λ b. cond b (node_at (trees_of from) q) None) (all_below (lane_number q lanes) lanes (omega arith)) in (
+      all_lanes number_of lanes_of faults_of lanes made far.lined,
       ap together (told_of-trees made) ∙ same_together (trees_of made) (trees_of from) (λ q. far.nodes q ∙ inside q) ∙ ap together (sym (told_of-trees from)),
     )
 
@@ -148,8 +144,3 @@ pub gathered_all : (lanes : List MemLane) (made : Tree) → ((q : List ℕ) → 
 gathered_all lanes made nodes =
     ap together (told_of-trees lanes) ∙ (whole (trees_of lanes)).told
     ∙ ap Some (trees.same_map nat_list_cmp_total exact_bytes (whole (trees_of lanes)).tree made (λ q. (whole (trees_of lanes)).nodes q ∙ sym (nodes q ∙ in_one q (node_at (trees_of lanes) q))))
-
--- every node is added to a tree that had none
-pub copied_tree : (from made empty : Tree) → empty ≡ trees.empty → ((q : List ℕ) → trees.get made q ≡ first_of (trees.get empty q) (in_share 0 1 q (trees.get from q))) → made ≡ from
-copied_tree from made empty none nodes = trees.same_map nat_list_cmp_total exact_bytes made from (λ q.
-    nodes q ∙ ap (λ o. first_of o (in_share 0 1 q (trees.get from q))) (ap (λ t. trees.get t q) none ∙ trees.get-empty (slice_cmp nat_cmp) q) ∙ in_one q (trees.get from q))

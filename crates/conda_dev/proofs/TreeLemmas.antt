@@ -1,9 +1,7 @@
 -- The tree that the entries of a `BTreeMap` make.
 use Rattle.std.proofs.Common.{◌≡◌, ◌==◌, ℕ, List, [], ◌∷◌, Bool, true, false, true≢false, cond, Option, Some, None, is_some, refl, ap, sym, ◌∙◌}
-use Rattle.std.specs.Ordering.{nat_cmp, is_eq}
-use Rattle.std.specs.declared.cmp.Ordering.{Ordering}
-use Rattle.std.specs.declared.cmp.Ordering.TheVariants.{Less, Equal, Greater}
-use Rattle.std.specs.Cmp.{eq_by_cmp_equiv}
+use Rattle.std.specs.Ordering.{nat_cmp}
+use Rattle.std.specs.Cmp.{Equal-is, eq_by_cmp_equiv}
 use Rattle.std.specs.Cmp.Lexicographic.{slice_cmp, nat_list_cmp_total}
 use Rattle.std.specs.Map.{lookup}
 use Rattle.std.specs.BTreeMap.{is_at}
@@ -41,13 +39,8 @@ one_put es fs p n h = map.same_map nat_list_cmp_total exact_bytes _ _ (λ q.
 abbrev pub at_path : Entries → List ℕ → Option Node
 at_path es q = lookup (is_at (slice_cmp nat_cmp q)) es
 
-tied : (o : Ordering) → is_eq o ≡ true → o ≡ Equal
-tied Less e = absurd (true≢false (sym e))
-tied Equal e = refl
-tied Greater e = absurd (true≢false (sym e))
-
 pub keyed : (q p : List ℕ) → is_at (slice_cmp nat_cmp q) p ≡ true → q ≡ p
-keyed q p t = exact_bytes q p (tied (slice_cmp nat_cmp q p) t)
+keyed q p t = exact_bytes q p ((Equal-is (slice_cmp nat_cmp q p)).0 t)
 
 settled : (found a b : Option Node) → is_some found ≡ true → first_of found a ≡ first_of found b
 settled None a b e = absurd (true≢false (sym e))

@@ -1,6 +1,26 @@
--- What a host has of its prefixes before and after a call. This project's own.
-use Rattle.std.specs.Prelude.{◌≡◌, ◌≢◌, ℕ, List, Bool, ◌&&◌, ◌||◌, not}
+-- What a host tells of itself, and how its calls change that. This project's own.
+use Rattle.std.specs.Prelude.{◌≡◌, ◌≢◌, ◌≤◌, ℕ, ◌+◌, ◌-◌, ◌^◌, List, length, map, min, sum_by, get_or, slice_set, Bool, true, false, ◌&&◌, ◌||◌, not, Option, refl}
 use Rattle.std.specs.Str.{bytes_eq}
+use Rattle.std.proofs.Common.{true≢false, ap, subst, sym, ◌∙◌}
+use Rattle.std.proofs.lemmas.List.{length-set}
+use Rattle.std.proofs.lemmas.Slice.Eq.{bytes_eq-Decides}
+use Rattle.conda_dev.specs.Lanes.{AreNew, InPlace, still_placed}
+use Rattle.conda_dev.specs.Tree.{Tree, together}
+
+-- the tree of each prefix that isn't lent, where it is told; which prefixes are lent; the count of the host's own
+-- faults, and that of the faults of its lanes that were taken back
+pub record HostState : Type 0 where
+  pub told : List ℕ → Option Tree
+  pub lent : List ℕ → Bool
+  pub faults : ℕ
+  pub lane_faults : ℕ
+
+-- a host as it is made: nothing is lent or failed, and these are the trees
+pub record IsNew (trees : List ℕ → Option Tree) (host : HostState) : Type 0 where
+  pub told : (prefix : List ℕ) → host.told prefix ≡ trees prefix
+  pub free : (prefix : List ℕ) → host.lent prefix ≡ false
+  pub unharmed : host.faults ≡ 0
+  pub lanes_unharmed : host.lane_faults ≡ 0
 
 -- each prefix has what it had: the tree that is told of it, or whether it is lent
 abbrev pub SameOfAll : {A : Type 0} → (List ℕ → A) → (List ℕ → A) → Type 0
@@ -17,3 +37,53 @@ IsLentToo prefix before now = (other : List ℕ) → now other ≡ (bytes_eq oth
 -- this prefix is lent no longer, and of the others those are that were
 abbrev pub IsReturned : List ℕ → (List ℕ → Bool) → (List ℕ → Bool) → Type 0
 IsReturned prefix before now = (other : List ℕ) → now other ≡ (not (bytes_eq other prefix) && before other)
+
+-- a prefix may be taken back with these lanes: it is lent, and each lane stands at the place of its number
+pub record CanTakeBack {L : Type 0} (number lanes : L → ℕ) (prefix : List ℕ) (all : List L) (host : HostState) : Type 0 where
+  pub lent : host.lent prefix ≡ true
+  pub some : 1 ≤ length all
+  pub placed : InPlace number lanes all
+
+-- A prefix was taken back with these lanes. Its tree is the one that they tell together, and the count of lanes'
+-- faults rose by exactly theirs, or to its last value.
+pub record TakesBack {L : Type 0} (told_by : L → Option Tree) (faults_of : L → ℕ) (prefix : List ℕ) (all : List L) (before now : HostState) : Type 0 where
+  pub tree : now.told prefix ≡ together (map told_by all)
+  pub others : SameOfOthers prefix before.told now.told
+  pub returned : IsReturned prefix before.lent now.lent
+  pub lane_faults : now.lane_faults ≡ min (before.lane_faults + sum_by faults_of all) (2 ^ 64 - 1)
+  pub faults : now.faults ≡ before.faults
+
+-- ---- laws, for callers of `lanes` and `take_back`
+
+-- what holds of this prefix and of the others holds of all
+pub same_of_all : {A : Type 0} (prefix : List ℕ) (before now : List ℕ → A) → SameOfOthers prefix before now
+    → now prefix ≡ before prefix → SameOfAll before now
+same_of_all prefix before now others here other =
+    elim (bytes_eq other prefix) as (λ b. bytes_eq other prefix ≡ b → now other ≡ before other) [
+      | true ↦ λ same. let e = (bytes_eq-Decides other prefix).0 same in ap now e ∙ here ∙ sym (ap before e)
+      | false ↦ λ differs. others other (λ e. true≢false (sym ((bytes_eq-Decides other prefix).1 e) ∙ differs))
+    ] refl
+
+-- a prefix that was lent and taken back with its tree as it was
+pub lent_and_returned : {A : Type 0} (prefix : List ℕ) (before between now : List ℕ → A) → SameOfOthers prefix before between
+    → SameOfOthers prefix between now → now prefix ≡ before prefix → SameOfAll before now
+lent_and_returned prefix before between now lent returned here =
+    same_of_all prefix before now (λ other ne. returned other ne ∙ lent other ne) here
+
+-- a prefix that is lent now
+lent_now : (prefix : List ℕ) (before now : List ℕ → Bool) → IsLentToo prefix before now → now prefix ≡ true
+lent_now prefix before now lent =
+    lent prefix ∙ ap (λ b. b || before prefix) ((bytes_eq-Decides prefix prefix).1 refl)
+
+-- a prefix that was just lent may be taken back after a call of one of its lanes
+pub back_after_call : {L : Type 0} (number lanes faults : L → ℕ) (prefix : List ℕ) (n i : ℕ) (all : List L) (lane next : L)
+    (before : List ℕ → Bool) (host : HostState) → IsLentToo prefix before host.lent → 1 ≤ n → AreNew number lanes faults n all
+    → lane ≡ get_or all i lane → number next ≡ number lane → lanes next ≡ lanes lane
+    → CanTakeBack number lanes prefix (slice_set all i next) host
+back_after_call number lanes faults prefix n i all lane next before host lent some new is its_number its_lanes =
+    let P : ℕ → Type 0 = λ k. 1 ≤ k in
+    record {
+      lent = lent_now prefix before host.lent lent;
+      some = subst P (sym (length-set all i next ∙ new.count)) some;
+      placed = still_placed number lanes all i lane next new.placed is its_number its_lanes;
+    }

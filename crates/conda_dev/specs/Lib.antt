@@ -3,6 +3,7 @@ pub mod Plan
 pub mod Streams
 pub mod Tree
 pub mod Lanes
+pub mod Keys
 pub mod Seen
 pub mod Hosts
 pub mod Memory

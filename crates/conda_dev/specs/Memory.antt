@@ -15,6 +15,16 @@ use Rattle.conda_dev.specs.Tree.{Tree, first_of, together}
 abbrev pub place_at : List (List ℕ × Place) → List ℕ → Option Place
 place_at places prefix = lookup (is_at (slice_cmp nat_cmp prefix)) places
 
+-- what lanes in memory tell of themselves
+abbrev pub number_of : MemLane → ℕ
+number_of lane = lane.number
+
+abbrev pub lanes_of : MemLane → ℕ
+lanes_of lane = lane.lanes
+
+abbrev pub faults_of : MemLane → ℕ
+faults_of lane = lane.meter.faults.count
+
 -- the trees of lanes
 abbrev pub trees_of : List MemLane → List Tree
 trees_of lanes = map (λ lane. lane.tree) lanes

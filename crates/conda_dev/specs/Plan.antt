@@ -1,5 +1,5 @@
 -- Which calls of a memory form fail. This project's own.
-use Rattle.std.specs.Prelude.{◌==◌, ℕ, ◌+◌, ◌-◌, ◌^◌, min, Bool, true, false, ◌&&◌, List, [], ◌∷◌, Option, Some, None, if◌then◌else◌}
+use Rattle.std.specs.Prelude.{◌==◌, ℕ, ◌+◌, ◌-◌, ◌^◌, min, Bool, true, false, ◌&&◌, List, find, filter, map, Option, option_map}
 use Rattle.std.specs.Str.{bytes_eq}
 use Rattle.conda_dev.specs.declared.fault.Effect.{Effect}
 use Rattle.conda_dev.specs.declared.fault.FailAt.{FailAt}
@@ -13,8 +13,7 @@ next_call calls = min (calls + 1) (2 ^ 64 - 1)
 
 -- how the call of this number fails, if it is to: of two entries for one call the first counts
 abbrev pub effect_at : List Planned → ℕ → Option Effect
-effect_at [] call = None
-effect_at (planned ∷ rest) call = if planned.call == call then Some planned.effect else effect_at rest call
+effect_at planned call = option_map (λ entry. entry.effect) (find (λ entry. entry.call == call) planned)
 
 -- whether two targets are one
 abbrev pub same_target : Target → Target → Bool
@@ -31,6 +30,4 @@ is_lane number _ = false
 
 -- the calls that are to fail of the targets that the test passes
 abbrev pub plan_of : (Target → Bool) → List FailAt → List Planned
-plan_of counts [] = []
-plan_of counts (fail ∷ rest) =
-    if counts fail.on then record { call = fail.call; effect = fail.effect } ∷ plan_of counts rest else plan_of counts rest
+plan_of counts fails = map (λ fail. record { call = fail.call; effect = fail.effect }) (filter (λ fail. counts fail.on) fails)

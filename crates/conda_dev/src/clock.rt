@@ -29,7 +29,8 @@ impl Clock for FixedClock {
     ghost next = { λ clock. Some clock.now };
 
     fn now(&mut self) -> u64
-        ensures given { IfSome (⟦<FixedClock as Clock>⟧.next self.old) (λ seconds. result ≡ seconds) }
+        ensures given { IfSome (⟦<FixedClock as Clock>⟧.next self.old)
+            (λ seconds. result ≡ seconds) }
         ensures still { self.new ≡ self.old }
     {
         self.now

@@ -18,6 +18,26 @@ pub enum DeviceErr {
     Memory,
 }
 
+impl From<Failed> for DeviceErr {
+    ghost use Rattle.conda_dev.specs.declared.fault.DeviceErr.{DeviceErr};
+
+    ghost from_gives = { λ _ e. e ≡ DeviceErr.Failed };
+
+    fn from(_: Failed) -> DeviceErr {
+        DeviceErr::Failed
+    }
+}
+
+impl From<AllocError> for DeviceErr {
+    ghost use Rattle.conda_dev.specs.declared.fault.DeviceErr.{DeviceErr};
+
+    ghost from_gives = { λ _ e. e ≡ DeviceErr.Memory };
+
+    fn from(_: AllocError) -> DeviceErr {
+        DeviceErr::Memory
+    }
+}
+
 /// Whether a call that is to fail has its effect first.
 #[derive(Clone, Copy, Debug, PartialEq, Eq)]
 pub enum Effect {
@@ -26,18 +46,19 @@ pub enum Effect {
 }
 
 /// A memory form whose calls are to fail.
-#[derive(Debug, Drop)]
+#[derive(Clone, Debug, PartialEq, Eq, Drop)]
 pub enum Target {
-    /// The lanes of a prefix with this number, one after another. `MemLane::make` passes over the prefix.
+    /// The lanes of a prefix with this number, one after another. `MemLane::make` passes over the
+    /// prefix.
     Lane { prefix: Prefix, number: u32 },
     Host,
     Input,
     Output,
 }
 
-/// One call that is to fail, before or after its effect. Only calls that can fail are counted, from 1.
-/// Of two entries for one call the first counts.
-#[derive(Debug, Drop)]
+/// One call that is to fail, before or after its effect. Only calls that can fail are counted,
+/// from 1. Of two entries for one call the first counts.
+#[derive(Clone, Debug, PartialEq, Eq, Drop)]
 pub struct FailAt {
     pub on: Target,
     pub call: u64,
@@ -51,79 +72,28 @@ pub struct Planned {
     pub effect: Effect,
 }
 
-impl Effect {
-    /// An equal value.
-    pub fn copy(&self, _alloc: Global) -> Result<Effect, AllocError>
-        ensures { IfOk result (λ made. made ≡ self.now) }
-    {
+impl Copied for Effect {
+    fn copy(&self) -> Result<Effect, AllocError> {
         Ok(*self)
     }
 }
 
-impl Copied for Effect {
-    fn copied(&self, alloc: Global) -> Result<Effect, AllocError> {
-        self.copy(alloc)
-    }
-}
-
-impl Target {
-    /// An equal value.
-    pub fn copy(&self, alloc: Global) -> Result<Target, AllocError>
-        ensures { IfOk result (λ made. made ≡ self.now) }
-    {
-        match self {
-            Target::Lane { prefix, number } => Ok(Target::Lane {
-                prefix: prefix.copy(alloc)?,
-                number: *number,
-            }),
-            Target::Host => Ok(Target::Host),
-            Target::Input => Ok(Target::Input),
-            Target::Output => Ok(Target::Output),
-        }
-    }
-}
-
 impl Copied for Target {
-    fn copied(&self, alloc: Global) -> Result<Target, AllocError> {
-        self.copy(alloc)
-    }
-}
-
-impl FailAt {
-    /// An equal value.
-    pub fn copy(&self, alloc: Global) -> Result<FailAt, AllocError>
-        ensures { IfOk result (λ made. made ≡ self.now) }
-    {
-        Ok(FailAt {
-            on: self.on.copy(alloc)?,
-            call: self.call,
-            effect: self.effect,
-        })
+    fn copy(&self) -> Result<Target, AllocError> {
+        self.clone()
     }
 }
 
 impl Copied for FailAt {
-    fn copied(&self, alloc: Global) -> Result<FailAt, AllocError> {
-        self.copy(alloc)
+    fn copy(&self) -> Result<FailAt, AllocError> {
+        self.clone()
     }
 }
 
 fn is_same(target: &Target, on: &Target) -> bool
     ensures { result ≡ same_target target.now on.now }
 {
-    match (target, on) {
-        (
-            Target::Lane { prefix, number },
-            Target::Lane {
-                prefix: other,
-                number: place,
-            },
-        ) => { prefix == other && number == place }
-        (Target::Host, Target::Host) => true,
-        (Target::Input, Target::Input) => true,
-        (Target::Output, Target::Output) => true,
-        _ => false,
-    }
+    target == on
 }
 
 /// The calls of a target that are to fail.

@@ -42,7 +42,8 @@ pub trait Lane: Send + Drop {
         ensures number { number self.new ≡ number self.old }
         ensures lanes { lanes self.new ≡ lanes self.old };
 
-    /// The node at a path of its share with at most the first `max` bytes, or None where nothing is there.
+    /// The node at a path of its share with at most the first `max` bytes, or None where nothing is
+    /// there.
     fn read(&mut self, alloc: Global, path: &RelPath, max: u64) -> Result<Option<Node>, DeviceErr>
         requires { lane_number path.now (lanes self.old) ≡ number self.old }
         ensures bound { IfOk result (λ read. IfSome read (λ node. length node.bytes ≤ max)) }
@@ -57,18 +58,9 @@ pub trait Lane: Send + Drop {
     ghost share: { (lane : Self) → LiesInShare (told lane) (number lane) (lanes lane) };
 }
 
-impl Seen {
-    /// An equal value.
-    pub fn copy(&self, _alloc: Global) -> Result<Seen, AllocError>
-        ensures { IfOk result (λ made. made ≡ self.now) }
-    {
-        Ok(*self)
-    }
-}
-
 impl Copied for Seen {
-    fn copied(&self, alloc: Global) -> Result<Seen, AllocError> {
-        self.copy(alloc)
+    fn copy(&self) -> Result<Seen, AllocError> {
+        Ok(*self)
     }
 }
 

@@ -1,8 +1,9 @@
-//! The devices that the program works on, as traits whose contracts say what each call does and when it may fail,
-//! and a form of each in memory that fails at given calls.
+//! The devices that the program works on, as traits whose contracts say what each call does and
+//! when it may fail, and a form of each in memory that fails at given calls.
 #![tactic(auto)]
 
 mod clock;
+mod count;
 mod fault;
 mod host;
 mod lane;
@@ -14,6 +15,7 @@ mod streams;
 mod tree;
 
 pub use clock::{Clock, FixedClock};
+pub use count::FaultCount;
 pub use fault::{DeviceErr, Effect, FailAt, Failed, Target};
 pub use host::Host;
 pub use lane::{Lane, Seen};
@@ -21,6 +23,3 @@ pub use mem_host::MemHost;
 pub use mem_lane::MemLane;
 pub use streams::{In, MemIn, MemOut, Out};
 pub use tree::Tree;
-
-#[cfg(test)]
-mod tests;

@@ -18,7 +18,8 @@ pub struct MemLane {
     pub(crate) lanes: u32,
     pub(crate) tree: Tree,
     pub(crate) meter: Meter,
-    ghost in_share: { (path : List ℕ) → IsSome (map.get tree path) → lane_number path lanes ≡ number },
+    ghost in_share: { (path : List ℕ)
+        → IsSome (map.get tree path) → lane_number path lanes ≡ number },
 }
 
 impl MemLane {
@@ -41,7 +42,7 @@ impl MemLane {
             number,
             lanes,
             tree,
-            meter: Meter::new(plan),
+            meter: Meter::new(0, plan),
         })
     }
 }
@@ -65,15 +66,15 @@ impl Lane for MemLane {
 
     ghost told = { λ lane. Some lane.tree };
 
-    ghost faults = { λ lane. lane.meter.faults };
+    ghost faults = { λ lane. lane.meter.faults.count };
 
     fn faults(&self) -> u64 {
-        self.meter.faults
+        self.meter.faults.count
     }
 
     fn look(&mut self, path: &RelPath) -> Result<Option<Seen>, Failed> {
         if self.meter.next().is_some() {
-            self.meter.fail();
+            self.meter.faults.raise();
             return Err(Failed);
         }
         match self.tree.get(path) {
@@ -84,16 +85,13 @@ impl Lane for MemLane {
 
     fn read(&mut self, alloc: Global, path: &RelPath, max: u64) -> Result<Option<Node>, DeviceErr> {
         if self.meter.next().is_some() {
-            self.meter.fail();
+            self.meter.faults.raise();
             return Err(DeviceErr::Failed);
         }
         let Some(node) = self.tree.get(path) else {
             return Ok(None);
         };
-        match cut(alloc, node, max) {
-            Ok(node) => Ok(Some(node)),
-            Err(_) => Err(DeviceErr::Memory),
-        }
+        Ok(Some(cut(alloc, node, max)?))
     }
 
     ghost share = { λ lane. lane.in_share };

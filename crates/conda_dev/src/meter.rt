@@ -1,27 +1,28 @@
-ghost use Rattle.std.specs.Prelude.{◌≡◌, ◌+◌, ◌-◌, ◌^◌, ◌≤◌, min};
-ghost use Rattle.conda_dev.specs.Fault.{Rose};
+ghost use Rattle.std.specs.Prelude.{◌≡◌};
 ghost use Rattle.conda_dev.specs.Plan.{effect_at, next_call};
 
+use crate::count::FaultCount;
 use crate::fault::{Effect, Planned};
 
-/// What a memory form counts: its calls that can fail, and its faults. The list says which of these calls fail.
+/// What a memory form counts: its calls that can fail, and its faults. The list says which of these
+/// calls fail.
 #[derive(Debug, Drop)]
 pub struct Meter {
     pub calls: u64,
-    pub faults: u64,
+    pub faults: FaultCount,
     pub planned: Vec<Planned>,
 }
 
 impl Meter {
-    /// Nothing is counted yet.
-    pub fn new(planned: Vec<Planned>) -> Meter
-        ensures calls { result.calls ≡ 0 }
-        ensures faults { result.faults ≡ 0 }
+    /// So many calls are counted, and no fault.
+    pub fn new(calls: u64, planned: Vec<Planned>) -> Meter
+        ensures calls { result.calls ≡ calls }
+        ensures faults { result.faults.count ≡ 0 }
         ensures planned { result.planned ≡ planned }
     {
         Meter {
-            calls: 0,
-            faults: 0,
+            calls,
+            faults: FaultCount::new(),
             planned,
         }
     }
@@ -33,15 +34,6 @@ impl Meter {
     {
         self.calls = self.calls.saturating_add(1);
         planned_effect(&self.planned, self.calls)
-    }
-
-    /// Counts a fault.
-    pub fn fail(&mut self)
-        ensures later { self.old.faults ≤ self.new.faults }
-        ensures rose { Rose self.old.faults self.new.faults }
-        ensures counted { self.new ≡ record self.old { faults = min (self.old.faults + 1) (2 ^ 64 - 1) } }
-    {
-        self.faults = self.faults.saturating_add(1);
     }
 }
 

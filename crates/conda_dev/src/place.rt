@@ -1,14 +1,18 @@
-ghost use Rattle.std.specs.Prelude.{◌≡◌, ◌≢◌, ◌≤◌, ◌+◌, ◌-◌, ◌^◌, ℕ, true, false, List, Some, All, map, min, sum_by, length, IfOk, OnOk, OnErr};
+ghost use Rattle.std.specs.Prelude.{◌+◌, ◌-◌, ◌^◌, min, sum_by};
+ghost use Rattle.std.specs.Prelude.{◌≡◌, ◌≤◌, ℕ, true, false, List, Some, IfOk, OnOk, OnErr};
 ghost use Rattle.std.specs.FinMap as tree;
 ghost use Rattle.conda_dev.specs.Hosts.{SameOfOthers};
-ghost use Rattle.conda_dev.specs.Lanes.{InPlace};
-ghost use Rattle.conda_dev.specs.Memory.{given, lent_in, node_at, place_at, told_in, told_of, trees_of};
+ghost use Rattle.conda_dev.specs.Lanes.{AreNew};
+ghost use Rattle.conda_dev.specs.Memory.{given, lent_in, node_at, place_at, told_in, told_of};
+ghost use Rattle.conda_dev.specs.Memory.{faults_of, lanes_of, number_of, trees_of};
 ghost use Rattle.conda_dev.specs.Tree.{in_share, together};
 
+use crate::count::FaultCount;
 use crate::fault::{FailAt, Target, plan_for};
 use crate::mem_lane::MemLane;
 use crate::meter::Meter;
 use crate::tree::{Tree, add_share};
+use conda_base::Copied;
 use conda_path::Prefix;
 use std::alloc::{AllocError, Global};
 use std::collections::BTreeMap;
@@ -26,11 +30,12 @@ pub struct Place {
 /// The nodes of lanes in the share of a number.
 fn gathered(alloc: Global, from: &[MemLane], number: u32, lanes: u32) -> Result<Tree, AllocError>
     requires { 1 ≤ lanes }
-    ensures { IfOk result (λ made. (path : List ℕ) → tree.get made path ≡ in_share number lanes path (node_at (trees_of from.now) path)) }
+    ensures { IfOk result (λ made. (path : List ℕ) → tree.get made path
+        ≡ in_share number lanes path (node_at (trees_of from.now) path)) }
 {
     let mut made = Tree::new(alloc);
     for lane in from {
-        add_share(alloc, &mut made, &lane.tree, number, lanes)?;
+        add_share(&mut made, &lane.tree, number, lanes)?;
     }
     Ok(made)
 }
@@ -56,12 +61,13 @@ fn lent_lane(
     requires { 1 ≤ lanes }
     ensures number { IfOk result (λ lane. lane.number ≡ number) }
     ensures lanes { IfOk result (λ lane. lane.lanes ≡ lanes) }
-    ensures unharmed { IfOk result (λ lane. lane.meter.faults ≡ 0) }
-    ensures nodes { IfOk result (λ lane. (path : List ℕ) → tree.get lane.tree path ≡ in_share number lanes path (node_at (trees_of from.now) path)) }
+    ensures unharmed { IfOk result (λ lane. lane.meter.faults.count ≡ 0) }
+    ensures nodes { IfOk result (λ lane. (path : List ℕ) → tree.get lane.tree path
+        ≡ in_share number lanes path (node_at (trees_of from.now) path)) }
 {
     let tree = gathered(alloc, from, number, lanes)?;
     let target = Target::Lane {
-        prefix: prefix.copy(alloc)?,
+        prefix: prefix.copy()?,
         number,
     };
     let planned = plan_for(alloc, fails, &target)?;
@@ -69,11 +75,7 @@ fn lent_lane(
         number,
         lanes,
         tree,
-        meter: Meter {
-            calls,
-            faults: 0,
-            planned,
-        },
+        meter: Meter::new(calls, planned),
     })
 }
 
@@ -87,10 +89,9 @@ fn lent_lanes(
     lanes: u32,
 ) -> Result<Vec<MemLane>, AllocError>
     requires { 1 ≤ lanes }
-    ensures count { IfOk result (λ made. length made.items ≡ lanes) }
-    ensures placed { IfOk result (λ made. InPlace (λ (lane : MemLane). lane.number) (λ lane. lane.lanes) made.items) }
-    ensures unharmed { IfOk result (λ made. All (λ lane. lane.meter.faults ≡ 0) made.items) }
-    ensures tree { IfOk result (λ made. together (told_of made.items) ≡ together (told_of from.now)) }
+    ensures lanes { IfOk result (λ made. AreNew number_of lanes_of faults_of lanes made.items) }
+    ensures tree { IfOk result (λ made.
+        together (told_of made.items) ≡ together (told_of from.now)) }
 {
     let mut made = Vec::new(alloc);
     for number in 0..lanes {
@@ -136,12 +137,12 @@ pub fn lend(
     lanes: u32,
 ) -> Result<Vec<MemLane>, AllocError>
     requires { 1 ≤ lanes }
-    ensures count { IfOk result (λ made. length made.items ≡ lanes) }
-    ensures placed { IfOk result (λ made. InPlace (λ (lane : MemLane). lane.number) (λ lane. lane.lanes) made.items) }
-    ensures unharmed { IfOk result (λ made. All (λ lane. lane.meter.faults ≡ 0) made.items) }
-    ensures tree { IfOk result (λ made. together (told_of made.items) ≡ told_in (place_at places.old.entries prefix.now)) }
+    ensures lanes { IfOk result (λ made. AreNew number_of lanes_of faults_of lanes made.items) }
+    ensures tree { IfOk result (λ made.
+        together (told_of made.items) ≡ told_in (place_at places.old.entries prefix.now)) }
     ensures lent { OnOk result (lent_in (place_at places.new.entries prefix.now) ≡ true) }
-    ensures others { SameOfOthers prefix.now (place_at places.old.entries) (place_at places.new.entries) }
+    ensures others { SameOfOthers prefix.now
+        (place_at places.old.entries) (place_at places.new.entries) }
     ensures err { OnErr result (places.new.entries ≡ places.old.entries) }
 {
     let made = lent_lanes(
@@ -158,7 +159,7 @@ pub fn lend(
         lanes: Vec::new(alloc),
         calls,
     };
-    places.insert(prefix.copy(alloc)?, place)?;
+    places.insert(prefix.copy()?, place)?;
     Ok(made)
 }
 
@@ -174,7 +175,8 @@ pub fn return_lanes(places: &mut BTreeMap<Prefix, Place>, prefix: &Prefix, lanes
     requires { lent_in (place_at places.old.entries prefix.now) ≡ true }
     ensures tree { told_in (place_at places.new.entries prefix.now) ≡ together (told_of lanes.items) }
     ensures free { lent_in (place_at places.new.entries prefix.now) ≡ false }
-    ensures others { SameOfOthers prefix.now (place_at places.old.entries) (place_at places.new.entries) }
+    ensures others { SameOfOthers prefix.now
+        (place_at places.old.entries) (place_at places.new.entries) }
 {
     if let Some(place) = places.get_mut(prefix) {
         count_calls(&mut place.calls, &lanes);
@@ -183,15 +185,16 @@ pub fn return_lanes(places: &mut BTreeMap<Prefix, Place>, prefix: &Prefix, lanes
     }
 }
 
-/// A count of faults with those of lanes, or its last value.
-pub fn total_faults(before: u64, lanes: &[MemLane]) -> u64
-    ensures { result ≡ min (before + sum_by (λ lane. lane.meter.faults) lanes.now) (2 ^ 64 - 1) }
+/// Adds the faults of lanes to a count.
+pub fn add_faults(faults: &mut FaultCount, lanes: &[MemLane])
+    ensures { faults.new.count
+        ≡ min (faults.old.count + sum_by faults_of lanes.now) (2 ^ 64 - 1) }
 {
-    let mut total = before;
+    let mut total = faults.count;
     for lane in lanes {
-        total = total.saturating_add(lane.meter.faults);
+        total = total.saturating_add(lane.meter.faults.count);
     }
-    total
+    faults.count = total;
 }
 
 /// A prefix that was never lent.
@@ -203,7 +206,7 @@ fn first_place(alloc: Global, tree: Tree) -> Result<Place, AllocError>
         number: 0,
         lanes: 1,
         tree,
-        meter: Meter::new(Vec::new(alloc)),
+        meter: Meter::new(0, Vec::new(alloc)),
     };
     let mut lanes = Vec::new(alloc);
     lanes.push(lane)?;
@@ -219,12 +222,15 @@ pub fn first_places(
     alloc: Global,
     prefixes: Vec<(Prefix, Tree)>,
 ) -> Result<BTreeMap<Prefix, Place>, AllocError>
-    ensures trees { IfOk result (λ places. (prefix : List ℕ) → told_in (place_at places.entries prefix) ≡ given prefixes.items (Some tree.empty) prefix) }
-    ensures free { IfOk result (λ places. (prefix : List ℕ) → lent_in (place_at places.entries prefix) ≡ false) }
+    ensures trees { IfOk result (λ places. (prefix : List ℕ)
+        → told_in (place_at places.entries prefix)
+        ≡ given prefixes.items (Some tree.empty) prefix) }
+    ensures free { IfOk result (λ places. (prefix : List ℕ)
+        → lent_in (place_at places.entries prefix) ≡ false) }
 {
     let mut places = BTreeMap::new(alloc);
     for (prefix, tree) in prefixes {
-        places.insert(prefix, first_place(alloc, tree)?)?;
+        let _ = places.insert(prefix, first_place(alloc, tree)?)?;
     }
     Ok(places)
 }

@@ -1,6 +1,7 @@
-ghost use Rattle.std.specs.Prelude.{◌≡◌, ◌≤◌, ℕ, [], List, length, take, drop, Option, Some, IfOk, OnOk, OnErr, IfSome};
+ghost use Rattle.std.specs.Prelude.{◌≡◌, ◌≤◌, ℕ, [], List, length, take, drop, Option, Some};
+ghost use Rattle.std.specs.Prelude.{IfOk, IfSome, OnErr, OnOk};
 ghost use Rattle.conda_dev.specs.Fault.{HasCause, HasDeviceCause};
-ghost use Rattle.conda_dev.specs.Streams.{appended, led_by};
+ghost use Rattle.conda_dev.specs.Streams.{OutState, appended, led_by};
 
 use crate::fault::{DeviceErr, Effect, FailAt, Failed, Target, plan_for};
 use crate::meter::Meter;
@@ -23,27 +24,29 @@ pub trait In {
         requires { 1 ≤ max }
         ensures bound { IfOk result (λ taken. length taken.items ≤ max) }
         ensures first { IfOk result (λ taken. left self.old ≡ led_by taken.items (left self.new)) }
-        ensures end { IfOk result (λ taken. taken.items ≡ [] → IfSome (left self.old) (λ bytes. bytes ≡ [])) }
-        ensures err { OnErr result ((lost : List ℕ) × (left self.old ≡ led_by lost (left self.new))) }
+        ensures end { IfOk result (λ taken.
+            taken.items ≡ [] → IfSome (left self.old) (λ bytes. bytes ≡ [])) }
+        ensures err { OnErr result
+            ((lost : List ℕ) × (left self.old ≡ led_by lost (left self.new))) }
         ensures cause { HasDeviceCause (faults self.old) (faults self.new) result };
 }
 
 /// An output.
 pub trait Out {
-    /// All that was put, where it tells it.
-    ghost told: { Self → Option (List ℕ) };
-    /// The count of faults.
-    ghost faults: { Self → ℕ };
+    /// What it tells of itself.
+    ghost state: { Self → OutState };
 
     /// How often it failed. The count never falls, and stands still at the last value of its type.
     fn faults(&self) -> u64
-        ensures { result ≡ faults self.now };
+        ensures { result ≡ (state self.now).faults };
 
     /// Appends all of the bytes. After a failure some first part of them was appended.
     fn put(&mut self, bytes: &[u8]) -> Result<(), Failed>
-        ensures ok { OnOk result (told self.new ≡ appended (told self.old) bytes.now) }
-        ensures err { OnErr result ((n : ℕ) × (told self.new ≡ appended (told self.old) (take n bytes.now))) }
-        ensures cause { HasCause (faults self.old) (faults self.new) result };
+        ensures ok { OnOk result
+            ((state self.new).told ≡ appended (state self.old).told bytes.now) }
+        ensures err { OnErr result ((n : ℕ)
+            × ((state self.new).told ≡ appended (state self.old).told (take n bytes.now))) }
+        ensures cause { HasCause (state self.old).faults (state self.new).faults result };
 }
 
 /// An input of given bytes.
@@ -64,7 +67,7 @@ impl MemIn {
         Ok(MemIn {
             bytes,
             at: 0,
-            meter: Meter::new(plan),
+            meter: Meter::new(0, plan),
         })
     }
 }
@@ -72,27 +75,24 @@ impl MemIn {
 impl In for MemIn {
     ghost left = { λ input. Some (drop input.at input.bytes.items) };
 
-    ghost faults = { λ input. input.meter.faults };
+    ghost faults = { λ input. input.meter.faults.count };
 
     fn faults(&self) -> u64 {
-        self.meter.faults
+        self.meter.faults.count
     }
 
     fn take(&mut self, alloc: Global, max: usize) -> Result<Vec<u8>, DeviceErr> {
         let effect = self.meter.next();
         if effect == Some(Effect::Before) {
-            self.meter.fail();
+            self.meter.faults.raise();
             return Err(DeviceErr::Failed);
         }
         let rest = rest_of(&self.bytes, self.at);
         let count = rest.len().min(max);
-        let taken = match Vec::from_slice(alloc, &rest[..count]) {
-            Ok(taken) => taken,
-            Err(_) => return Err(DeviceErr::Memory),
-        };
+        let taken = Vec::from_slice(alloc, &rest[..count])?;
         self.at += count;
         if effect == Some(Effect::After) {
-            self.meter.fail();
+            self.meter.faults.raise();
             return Err(DeviceErr::Failed);
         }
         Ok(taken)
@@ -115,41 +115,42 @@ pub struct MemOut {
 impl MemOut {
     /// An output to which nothing was put.
     pub fn make(alloc: Global, fails: Vec<FailAt>) -> Result<MemOut, AllocError>
-        ensures told { IfOk result (λ out. ⟦<MemOut as Out>⟧.told out ≡ Some []) }
-        ensures unharmed { IfOk result (λ out. ⟦<MemOut as Out>⟧.faults out ≡ 0) }
+        ensures told { IfOk result (λ out. (⟦<MemOut as Out>⟧.state out).told ≡ Some []) }
+        ensures unharmed { IfOk result (λ out. (⟦<MemOut as Out>⟧.state out).faults ≡ 0) }
     {
         let plan = plan_for(alloc, &fails, &Target::Output)?;
         Ok(MemOut {
             bytes: Vec::new(alloc),
-            meter: Meter::new(plan),
+            meter: Meter::new(0, plan),
         })
     }
 
     /// What was put. It takes no memory.
     pub fn bytes(&self) -> &[u8]
-        ensures { ⟦<MemOut as Out>⟧.told self.now ≡ Some result.now }
+        ensures { (⟦<MemOut as Out>⟧.state self.now).told ≡ Some result.now }
     {
         self.bytes.as_slice()
     }
 }
 
 impl Out for MemOut {
-    ghost told = { λ out. Some out.bytes.items };
-
-    ghost faults = { λ out. out.meter.faults };
+    ghost state = { λ out. record {
+      told = Some out.bytes.items;
+      faults = out.meter.faults.count;
+    } };
 
     fn faults(&self) -> u64 {
-        self.meter.faults
+        self.meter.faults.count
     }
 
     fn put(&mut self, bytes: &[u8]) -> Result<(), Failed> {
         let effect = self.meter.next();
         if effect == Some(Effect::Before) || self.bytes.extend_from_slice(bytes).is_err() {
-            self.meter.fail();
+            self.meter.faults.raise();
             return Err(Failed);
         }
         if effect == Some(Effect::After) {
-            self.meter.fail();
+            self.meter.faults.raise();
             return Err(Failed);
         }
         Ok(())

@@ -10,7 +10,7 @@ use std::collections::BTreeMap;
 use std::marker::Model;
 
 /// Paths and their nodes, ascending by path.
-#[derive(Debug, Drop)]
+#[derive(Clone, Debug, Drop)]
 pub struct Tree {
     nodes: BTreeMap<RelPath, Node>,
 }
@@ -60,33 +60,17 @@ impl Tree {
     }
 }
 
-impl Tree {
-    /// An equal tree.
-    pub fn copy(&self, alloc: Global) -> Result<Tree, AllocError>
-        ensures { IfOk result (λ made. made ≡ self.now) }
-    {
-        let mut made = Tree::new(alloc);
-        add_share(alloc, &mut made, self, 0, 1)?;
-        Ok(made)
-    }
-}
-
 impl Copied for Tree {
-    fn copied(&self, alloc: Global) -> Result<Tree, AllocError> {
-        self.copy(alloc)
+    fn copy(&self) -> Result<Tree, AllocError> {
+        self.clone()
     }
 }
 
 /// Adds equal nodes for the paths of `from` in the share of this number, where none is yet.
-pub fn add_share(
-    alloc: Global,
-    made: &mut Tree,
-    from: &Tree,
-    number: u32,
-    lanes: u32,
-) -> Result<(), AllocError>
+pub fn add_share(made: &mut Tree, from: &Tree, number: u32, lanes: u32) -> Result<(), AllocError>
     requires { 1 ≤ lanes }
-    ensures ok { OnOk result ((path : List ℕ) → map.get made.new path ≡ first_of (map.get made.old path) (in_share number lanes path (map.get from.now path))) }
+    ensures ok { OnOk result ((path : List ℕ) → map.get made.new path
+        ≡ first_of (map.get made.old path) (in_share number lanes path (map.get from.now path))) }
 {
     for (path, node) in from.nodes.iter() {
         if lane_of(path, lanes) != number {
@@ -95,7 +79,7 @@ pub fn add_share(
         if made.contains(path) {
             continue;
         }
-        made.put(path.copy(alloc)?, node.copy(alloc)?)?;
+        made.put(path.copy()?, node.copy()?)?;
     }
     Ok(())
 }

@@ -4,12 +4,7 @@ use Rattle.std.specs.Ordering.{nat_cmp}
 use Rattle.std.specs.Cmp.Lexicographic.{slice_cmp}
 use Rattle.std.specs.Map.{lookup}
 use Rattle.std.specs.BTreeMap.{is_at}
-use Rattle.conda_real.specs.declared.host.RealHost.{RealHost}
 
 -- whether a prefix is among those that were noted
 abbrev pub is_lent : List (List ℕ × ℕ) → List ℕ → Bool
 is_lent noted prefix = is_some (lookup (is_at (slice_cmp nat_cmp prefix)) noted)
-
--- whether a real host has lent a prefix
-abbrev pub lends : {R F D : Type 0} → RealHost R F D → List ℕ → Bool
-lends host prefix = is_lent host.lent.entries prefix

@@ -9,4 +9,4 @@ abbrev pub lanes_of : {R F D : Type 0} → RealLane R F D → ℕ
 lanes_of lane = lane.lanes
 
 abbrev pub faults_of : {R F D : Type 0} → RealLane R F D → ℕ
-faults_of lane = lane.counts.faults
+faults_of lane = lane.faults.count

@@ -1,15 +1,12 @@
-ghost use Rattle.std.specs.Prelude.{◌≡◌, ◌≤◌, ◌+◌, ◌-◌, ◌^◌, ◌&&◌, ◌||◌, ℕ, List, true, false, not, All, IfOk, OnOk, OnErr, length, map, min, sum_by};
-ghost use Rattle.std.specs.Str.{bytes_eq};
-ghost use Rattle.conda_dev.specs.Hosts.{SameOfOthers, IsReturned};
-ghost use Rattle.conda_dev.specs.Lanes.{InPlace};
-ghost use Rattle.conda_dev.specs.Tree.{together};
-ghost use Rattle.conda_real.specs.Lent.{is_lent, lends};
+ghost use Rattle.std.specs.Prelude.{◌≡◌, ◌+◌, ◌-◌, ◌^◌, None, IfOk, OnOk, OnErr, min, sum_by};
+ghost use Rattle.conda_dev.specs.Hosts.{CanTakeBack, IsLentToo, IsNew, IsReturned, TakesBack};
+ghost use Rattle.conda_dev.specs.Lanes.{AreNew};
+ghost use Rattle.conda_real.specs.Lent.{is_lent};
 ghost use Rattle.conda_real.specs.RealLanes.{number_of, lanes_of, faults_of};
 
-use crate::counts::Counts;
 use crate::lane::RealLane;
-use conda_base::Text;
-use conda_dev::{DeviceErr, Host, Lane};
+use conda_base::{Copied, Text};
+use conda_dev::{DeviceErr, FaultCount, Host, Lane};
 use conda_path::Prefix;
 use std::alloc::{AllocError, Global};
 use std::collections::BTreeMap;
@@ -22,21 +19,21 @@ pub struct RealHost<R: Files + AllocGlobal + Clone + Drop> {
     root: Text,
     /// The prefixes that are lent, with the number of their lanes.
     lent: BTreeMap<Prefix, u32>,
-    counts: Counts,
-    lane_faults: u64,
+    faults: FaultCount,
+    lane_faults: FaultCount,
 }
 
-impl<R: Files + AllocGlobal + Clone + Drop> RealHost<R> {
+impl<R: Files + AllocGlobal + Clone + Send + Drop> RealHost<R> {
     /// A host over the folder `root`.
     pub fn make(rt: R, alloc: Global, root: &str) -> Result<RealHost<R>, AllocError>
-        ensures { IfOk result (λ host. (prefix : List ℕ) → lends host prefix ≡ false) }
+        ensures { IfOk result (λ host. IsNew (λ _. None) (⟦<RealHost<R> as Host>⟧.state host)) }
     {
         Ok(RealHost {
             rt,
             root: Text::from_str(alloc, root)?,
             lent: BTreeMap::new(alloc),
-            counts: Counts::new(),
-            lane_faults: 0,
+            faults: FaultCount::new(),
+            lane_faults: FaultCount::new(),
         })
     }
 }
@@ -54,47 +51,42 @@ fn all_lanes<R: Files + AllocGlobal + Clone + Drop>(
     folder: &Text,
     lanes: u32,
 ) -> Result<Vec<RealLane<R>>, AllocError>
-    ensures count { IfOk result (λ made. length made.items ≡ lanes) }
-    ensures placed { IfOk result (λ made. InPlace number_of lanes_of made.items) }
-    ensures unharmed { IfOk result (λ made. All (λ lane. faults_of lane ≡ 0) made.items) }
+    ensures { IfOk result (λ made. AreNew number_of lanes_of faults_of lanes made.items) }
 {
     let mut made = Vec::new(alloc);
     for number in 0..lanes {
-        made.push(RealLane::make(rt.clone()?, folder.copy(alloc)?, number, lanes))?;
+        made.push(RealLane::make(rt.clone()?, folder.copy()?, number, lanes))?;
     }
     Ok(made)
 }
 
 /// Notes a prefix as lent.
-fn note(
-    alloc: Global,
-    lent: &mut BTreeMap<Prefix, u32>,
-    prefix: &Prefix,
-    lanes: u32,
-) -> Result<(), AllocError>
-    ensures ok { OnOk result ((other : List ℕ) → is_lent lent.new.entries other ≡ (bytes_eq other prefix.now || is_lent lent.old.entries other)) }
+fn note(lent: &mut BTreeMap<Prefix, u32>, prefix: &Prefix, lanes: u32) -> Result<(), AllocError>
+    ensures ok { OnOk result
+        (IsLentToo prefix.now (is_lent lent.old.entries) (is_lent lent.new.entries)) }
     ensures err { OnErr result (lent.new.entries ≡ lent.old.entries) }
 {
-    lent.insert(prefix.copy(alloc)?, lanes)?;
+    lent.insert(prefix.copy()?, lanes)?;
     Ok(())
 }
 
 /// Notes a prefix as lent no longer.
 fn forget(lent: &mut BTreeMap<Prefix, u32>, prefix: &Prefix)
-    ensures { (other : List ℕ) → is_lent lent.new.entries other ≡ (not (bytes_eq other prefix.now) && is_lent lent.old.entries other) }
+    ensures { IsReturned prefix.now (is_lent lent.old.entries) (is_lent lent.new.entries) }
 {
     let _ = lent.remove(prefix);
 }
 
-/// A count of faults with those of lanes, or its last value.
-fn total_faults<R: Files + AllocGlobal + Drop>(before: u64, lanes: &[RealLane<R>]) -> u64
-    ensures { result ≡ min (before + sum_by faults_of lanes.now) (2 ^ 64 - 1) }
+/// Adds the faults of lanes to a count.
+fn add_faults<R: Files + AllocGlobal + Drop>(faults: &mut FaultCount, lanes: &[RealLane<R>])
+    ensures { faults.new.count
+        ≡ min (faults.old.count + sum_by faults_of lanes.now) (2 ^ 64 - 1) }
 {
-    let mut total = before;
+    let mut total = faults.count;
     for lane in lanes {
         total = total.saturating_add(lane.count());
     }
-    total
+    faults.count = total;
 }
 
 impl<R: Files + AllocGlobal + Clone + Send + Drop> Host for RealHost<R> {
@@ -102,16 +94,15 @@ impl<R: Files + AllocGlobal + Clone + Send + Drop> Host for RealHost<R> {
 
     ghost use Rattle.std.specs.Prelude.{None};
 
-    ghost told = { λ _ _. None };
-
-    ghost lent = { lends };
-
-    ghost faults = { λ host. host.counts.faults };
-
-    ghost lane_faults = { λ host. host.lane_faults };
+    ghost state = { λ host. record {
+      told = λ _. None;
+      lent = is_lent host.lent.entries;
+      faults = host.faults.count;
+      lane_faults = host.lane_faults.count;
+    } };
 
     fn faults(&self) -> u64 {
-        self.counts.faults
+        self.faults.count
     }
 
     fn lanes(
@@ -121,32 +112,20 @@ impl<R: Files + AllocGlobal + Clone + Send + Drop> Host for RealHost<R> {
         _pkgs: &str,
         n: u32,
     ) -> Result<Vec<RealLane<R>>, DeviceErr> {
-        let Ok(folder) = folder_of(alloc, &self.root, prefix) else {
-            return Err(DeviceErr::Memory);
-        };
-        let Ok(lanes) = all_lanes(&self.rt, alloc, &folder, n) else {
-            return Err(DeviceErr::Memory);
-        };
-        if note(alloc, &mut self.lent, prefix, n).is_err() {
-            return Err(DeviceErr::Memory);
-        }
+        let folder = folder_of(alloc, &self.root, prefix)?;
+        let lanes = all_lanes(&self.rt, alloc, &folder, n)?;
+        note(&mut self.lent, prefix, n)?;
         Ok(lanes)
     }
 
     fn take_back(&mut self, prefix: &Prefix, lanes: Vec<RealLane<R>>)
-        requires lent { ⟦<RealHost<R> as Host>⟧.lent self.old prefix.now ≡ true }
-        requires some { 1 ≤ length lanes.items }
-        requires placed { InPlace ⟦<RealLane<R> as Lane>⟧.number ⟦<RealLane<R> as Lane>⟧.lanes lanes.items }
-
-        ensures tree { ⟦<RealHost<R> as Host>⟧.told self.new prefix.now ≡ together (map ⟦<RealLane<R> as Lane>⟧.told lanes.items) }
-        ensures others { SameOfOthers prefix.now (⟦<RealHost<R> as Host>⟧.told self.old) (⟦<RealHost<R> as Host>⟧.told self.new) }
-        ensures returned { IsReturned prefix.now (⟦<RealHost<R> as Host>⟧.lent self.old) (⟦<RealHost<R> as Host>⟧.lent self.new) }
-
-        ensures lane_faults { ⟦<RealHost<R> as Host>⟧.lane_faults self.new
-            ≡ min (⟦<RealHost<R> as Host>⟧.lane_faults self.old + sum_by ⟦<RealLane<R> as Lane>⟧.faults lanes.items) (2 ^ 64 - 1) }
-        ensures faults { ⟦<RealHost<R> as Host>⟧.faults self.new ≡ ⟦<RealHost<R> as Host>⟧.faults self.old }
+        requires { CanTakeBack ⟦<RealLane<R> as Lane>⟧.number ⟦<RealLane<R> as Lane>⟧.lanes
+            prefix.now lanes.items (⟦<RealHost<R> as Host>⟧.state self.old) }
+        ensures { TakesBack ⟦<RealLane<R> as Lane>⟧.told ⟦<RealLane<R> as Lane>⟧.faults
+            prefix.now lanes.items (⟦<RealHost<R> as Host>⟧.state self.old)
+            (⟦<RealHost<R> as Host>⟧.state self.new) }
     {
-        self.lane_faults = total_faults(self.lane_faults, &lanes);
+        add_faults(&mut self.lane_faults, &lanes);
         forget(&mut self.lent, prefix);
     }
 }

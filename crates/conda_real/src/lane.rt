@@ -1,12 +1,13 @@
-ghost use Rattle.std.specs.Prelude.{◌≡◌, ◌≤◌, ℕ, IfOk, IfSome, length};
+ghost use Rattle.std.specs.Prelude.{◌≡◌, ◌≤◌, IfOk, IfSome, length};
+ghost use Rattle.conda_real.specs.Refusals.{count_after, device_count_after};
 
-use crate::counts::Counts;
+use crate::refusal::{answered, refused};
 use conda_base::{Bytes, Text};
-use conda_dev::{DeviceErr, Failed, Lane, Seen};
+use conda_dev::{DeviceErr, Failed, FaultCount, Lane, Seen};
 use conda_path::{Kind, Node, RelPath};
 use std::alloc::{AllocError, Global};
 use std::fs::{self, Metadata};
-use std::io::{Error, ErrorKind, Read};
+use std::io::{ErrorKind, Read};
 use std::os::unix::fs::PermissionsExt;
 use std::rt::Files;
 
@@ -20,7 +21,7 @@ pub struct RealLane<R: Files + AllocGlobal + Drop> {
     folder: Text,
     number: u32,
     lanes: u32,
-    counts: Counts,
+    faults: FaultCount,
 }
 
 impl<R: Files + AllocGlobal + Drop> RealLane<R> {
@@ -28,33 +29,28 @@ impl<R: Files + AllocGlobal + Drop> RealLane<R> {
     pub(crate) fn make(rt: R, folder: Text, number: u32, lanes: u32) -> RealLane<R>
         ensures number { result.number ≡ number }
         ensures lanes { result.lanes ≡ lanes }
-        ensures unharmed { result.counts.faults ≡ 0 }
+        ensures unharmed { result.faults.count ≡ 0 }
     {
         RealLane {
             rt,
             folder,
             number,
             lanes,
-            counts: Counts::new(),
+            faults: FaultCount::new(),
         }
     }
 
     /// How often it failed.
     pub(crate) fn count(&self) -> u64
-        ensures { result ≡ self.now.counts.faults }
+        ensures { result ≡ self.now.faults.count }
     {
-        self.counts.faults
+        self.faults.count
     }
 
     /// Where a path lies on the machine.
     fn place(&self, alloc: Global, path: &RelPath) -> Result<String, AllocError> {
         format!(in alloc; "{}/{}", self.folder.as_str(), path.as_str())
     }
-}
-
-/// Whether an error says that nothing is at a path.
-fn is_absent(error: &Error) -> bool {
-    matches!(error.kind(), ErrorKind::NotFound | ErrorKind::NotADirectory)
 }
 
 /// A node's kind; a folder and what else is no file isn't part of a tree.
@@ -73,25 +69,28 @@ fn kind_of(data: &Metadata) -> Option<Kind> {
 }
 
 /// What stands at a place.
-fn shown_at(rt: &impl Files, place: &str) -> Result<Option<Seen>, Failed> {
-    match fs::symlink_metadata(rt, place) {
-        Ok(data) => Ok(kind_of(&data).map(|kind| Seen {
-            kind,
-            size: data.len(),
-        })),
-        Err(e) if is_absent(&e) => Ok(None),
-        Err(_) => Err(Failed),
-    }
+fn shown_at(rt: &impl Files, place: &str, faults: &mut FaultCount) -> Result<Option<Seen>, Failed>
+    ensures { faults.new.count ≡ count_after result faults.old.count }
+{
+    let Some(data) = answered(fs::symlink_metadata(rt, place), faults)? else {
+        return Ok(None);
+    };
+    let size = data.len();
+    Ok(kind_of(&data).map(|kind| Seen { kind, size }))
 }
 
 /// At most the first `max` bytes of a reader.
-fn read_first<F: Read>(alloc: Global, file: &mut F, max: u64) -> Result<Vec<u8>, DeviceErr>
-    ensures { IfOk result (λ bytes. length bytes.items ≤ max) }
+fn read_first<F: Read>(
+    alloc: Global,
+    file: &mut F,
+    max: u64,
+    faults: &mut FaultCount,
+) -> Result<Vec<u8>, DeviceErr>
+    ensures bound { IfOk result (λ bytes. length bytes.items ≤ max) }
+    ensures count { faults.new.count ≡ device_count_after result faults.old.count }
 {
     let mut bytes = Vec::new(alloc);
-    let Ok(mut chunk) = vec![in alloc; 0_u8; max.min(CHUNK as u64) as usize] else {
-        return Err(DeviceErr::Memory);
-    };
+    let mut chunk = vec![in alloc; 0_u8; max.min(CHUNK as u64) as usize]?;
     for _ in 0..u64::MAX {
         let want = (max - bytes.len() as u64).min(chunk.len() as u64) as usize;
         if want == 0 {
@@ -101,13 +100,11 @@ fn read_first<F: Read>(alloc: Global, file: &mut F, max: u64) -> Result<Vec<u8>,
             Ok(0) => return Ok(bytes),
             Ok(count) => count,
             Err(e) if e.kind() == ErrorKind::Interrupted => continue,
-            Err(_) => return Err(DeviceErr::Failed),
+            Err(_) => return Err(DeviceErr::from(refused(faults))),
         };
-        if bytes.extend_from_slice(&chunk[..count]).is_err() {
-            return Err(DeviceErr::Memory);
-        }
+        bytes.extend_from_slice(&chunk[..count])?;
     }
-    Err(DeviceErr::Failed)
+    Err(DeviceErr::from(refused(faults)))
 }
 
 /// At most the first `max` bytes of a file, or None where nothing is there.
@@ -116,14 +113,15 @@ fn file_bytes(
     rt: &impl Files,
     place: &str,
     max: u64,
+    faults: &mut FaultCount,
 ) -> Result<Option<Vec<u8>>, DeviceErr>
-    ensures { IfOk result (λ read. IfSome read (λ bytes. length bytes.items ≤ max)) }
+    ensures bound { IfOk result (λ read. IfSome read (λ bytes. length bytes.items ≤ max)) }
+    ensures count { faults.new.count ≡ device_count_after result faults.old.count }
 {
-    match fs::open(rt, place) {
-        Ok(mut file) => Ok(Some(read_first(alloc, &mut file, max)?)),
-        Err(e) if is_absent(&e) => Ok(None),
-        Err(_) => Err(DeviceErr::Failed),
-    }
+    let Some(mut file) = answered(fs::open(rt, place), faults)? else {
+        return Ok(None);
+    };
+    Ok(Some(read_first(alloc, &mut file, max, faults)?))
 }
 
 /// At most the first `max` bytes of a soft link's target, or None where nothing is there.
@@ -132,24 +130,17 @@ fn link_bytes(
     rt: &(impl Files + AllocGlobal),
     place: &str,
     max: u64,
+    faults: &mut FaultCount,
 ) -> Result<Option<Vec<u8>>, DeviceErr>
-    ensures { IfOk result (λ read. IfSome read (λ bytes. length bytes.items ≤ max)) }
+    ensures bound { IfOk result (λ read. IfSome read (λ bytes. length bytes.items ≤ max)) }
+    ensures count { faults.new.count ≡ device_count_after result faults.old.count }
 {
-    match fs::read_link(rt, place) {
-        Ok(target) => Ok(Some(first_of(alloc, target.as_str().as_bytes(), max)?)),
-        Err(e) if is_absent(&e) => Ok(None),
-        Err(_) => Err(DeviceErr::Failed),
-    }
-}
-
-fn first_of(alloc: Global, bytes: &[u8], max: u64) -> Result<Vec<u8>, DeviceErr>
-    ensures { IfOk result (λ first. length first.items ≤ max) }
-{
+    let Some(target) = answered(fs::read_link(rt, place), faults)? else {
+        return Ok(None);
+    };
+    let bytes = target.as_str().as_bytes();
     let count = (bytes.len() as u64).min(max) as usize;
-    match Vec::from_slice(alloc, &bytes[..count]) {
-        Ok(first) => Ok(first),
-        Err(_) => Err(DeviceErr::Memory),
-    }
+    Ok(Some(Vec::from_slice(alloc, &bytes[..count])?))
 }
 
 /// The node at a place with at most its first `max` bytes, or None where nothing is there.
@@ -158,25 +149,22 @@ fn node_at(
     rt: &(impl Files + AllocGlobal),
     place: &str,
     max: u64,
+    faults: &mut FaultCount,
 ) -> Result<Option<Node>, DeviceErr>
-    ensures { IfOk result (λ read. IfSome read (λ node. length node.bytes ≤ max)) }
+    ensures bound { IfOk result (λ read. IfSome read (λ node. length node.bytes ≤ max)) }
+    ensures count { faults.new.count ≡ device_count_after result faults.old.count }
 {
-    let kind = match shown_at(rt, place) {
-        Ok(Some(seen)) => seen.kind,
-        Ok(None) => return Ok(None),
-        Err(Failed) => return Err(DeviceErr::Failed),
+    let Some(Seen { kind, .. }) = shown_at(rt, place, faults)? else {
+        return Ok(None);
     };
     let bytes = match kind {
-        Kind::Soft => link_bytes(alloc, rt, place, max)?,
-        Kind::File | Kind::Exec => file_bytes(alloc, rt, place, max)?,
+        Kind::Soft => link_bytes(alloc, rt, place, max, faults)?,
+        Kind::File | Kind::Exec => file_bytes(alloc, rt, place, max, faults)?,
     };
-    match bytes {
-        Some(bytes) => Ok(Some(Node {
-            kind,
-            bytes: Bytes::from_vec(bytes),
-        })),
-        None => Ok(None),
-    }
+    Ok(bytes.map(|bytes| Node {
+        kind,
+        bytes: Bytes::from_vec(bytes),
+    }))
 }
 
 impl<R: Files + AllocGlobal + Send + Drop> Lane for RealLane<R> {
@@ -188,32 +176,22 @@ impl<R: Files + AllocGlobal + Send + Drop> Lane for RealLane<R> {
 
     ghost told = { λ _. None };
 
-    ghost faults = { λ lane. lane.counts.faults };
+    ghost faults = { λ lane. lane.faults.count };
 
     fn faults(&self) -> u64 {
-        self.counts.faults
+        self.faults.count
     }
 
     fn look(&mut self, path: &RelPath) -> Result<Option<Seen>, Failed> {
-        let shown = match self.place(self.rt.alloc(), path) {
-            Ok(place) => shown_at(&self.rt, place.as_str()),
-            Err(_) => Err(Failed),
-        };
-        if shown.is_err() {
-            self.counts.fault();
+        match self.place(self.rt.alloc(), path) {
+            Ok(place) => shown_at(&self.rt, place.as_str(), &mut self.faults),
+            Err(_) => Err(refused(&mut self.faults)),
         }
-        shown
     }
 
     fn read(&mut self, alloc: Global, path: &RelPath, max: u64) -> Result<Option<Node>, DeviceErr> {
-        let Ok(place) = self.place(alloc, path) else {
-            return Err(DeviceErr::Memory);
-        };
-        let read = node_at(alloc, &self.rt, place.as_str(), max);
-        if let Err(DeviceErr::Failed) = read {
-            self.counts.fault();
-        }
-        read
+        let place = self.place(alloc, path)?;
+        node_at(alloc, &self.rt, place.as_str(), max, &mut self.faults)
     }
 
     ghost share = { λ _. tt };

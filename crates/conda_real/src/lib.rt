@@ -1,10 +1,11 @@
-//! The devices of the machine: its folders, standard input and output, and its clock. They tell nothing of content.
+//! The devices of the machine: its folders, standard input and output, and its clock. They tell
+//! nothing of content.
 #![tactic(auto)]
 
 mod clock;
-mod counts;
 mod host;
 mod lane;
+mod refusal;
 mod streams;
 
 pub use clock::RealClock;

@@ -1,7 +1,8 @@
-ghost use Rattle.std.specs.Prelude.{◌≤◌, IfOk, length};
+ghost use Rattle.std.specs.Prelude.{◌≡◌, ◌≤◌, IfOk, length};
+ghost use Rattle.conda_real.specs.Refusals.{device_count_after};
 
-use crate::counts::Counts;
-use conda_dev::{DeviceErr, Failed, In, Out};
+use crate::refusal::refused;
+use conda_dev::{DeviceErr, Failed, FaultCount, In, Out};
 use std::alloc::Global;
 use std::io;
 use std::io::{ErrorKind, Read, Write};
@@ -13,7 +14,7 @@ const CHUNK: usize = 65_536;
 #[derive(Drop)]
 pub struct RealIn<I: Read + Drop> {
     reader: I,
-    counts: Counts,
+    faults: FaultCount,
 }
 
 impl<I: Read + Drop> RealIn<I> {
@@ -21,18 +22,22 @@ impl<I: Read + Drop> RealIn<I> {
     pub fn make<R: Input<Reader = I>>(rt: &R) -> RealIn<I> {
         RealIn {
             reader: rt.reader(),
-            counts: Counts::new(),
+            faults: FaultCount::new(),
         }
     }
 }
 
 /// At most `max` bytes of a reader: at least one, or none at the end.
-pub fn read_some<I: Read>(alloc: Global, reader: &mut I, max: usize) -> Result<Vec<u8>, DeviceErr>
-    ensures { IfOk result (λ taken. length taken.items ≤ max) }
+fn read_some<I: Read>(
+    alloc: Global,
+    reader: &mut I,
+    max: usize,
+    faults: &mut FaultCount,
+) -> Result<Vec<u8>, DeviceErr>
+    ensures bound { IfOk result (λ taken. length taken.items ≤ max) }
+    ensures count { faults.new.count ≡ device_count_after result faults.old.count }
 {
-    let Ok(mut bytes) = vec![in alloc; 0_u8; max.min(CHUNK)] else {
-        return Err(DeviceErr::Memory);
-    };
+    let mut bytes = vec![in alloc; 0_u8; max.min(CHUNK)]?;
     for _ in 0..u64::MAX {
         match reader.read(&mut bytes) {
             Ok(count) => {
@@ -40,10 +45,10 @@ pub fn read_some<I: Read>(alloc: Global, reader: &mut I, max: usize) -> Result<V
                 return Ok(bytes);
             }
             Err(e) if e.kind() == ErrorKind::Interrupted => continue,
-            Err(_) => return Err(DeviceErr::Failed),
+            Err(_) => break,
         }
     }
-    Err(DeviceErr::Failed)
+    Err(DeviceErr::from(refused(faults)))
 }
 
 impl<I: Read + Drop> In for RealIn<I> {
@@ -51,18 +56,14 @@ impl<I: Read + Drop> In for RealIn<I> {
 
     ghost left = { λ _. None };
 
-    ghost faults = { λ input. input.counts.faults };
+    ghost faults = { λ input. input.faults.count };
 
     fn faults(&self) -> u64 {
-        self.counts.faults
+        self.faults.count
     }
 
     fn take(&mut self, alloc: Global, max: usize) -> Result<Vec<u8>, DeviceErr> {
-        let taken = read_some(alloc, &mut self.reader, max);
-        if let Err(DeviceErr::Failed) = taken {
-            self.counts.fault();
-        }
-        taken
+        read_some(alloc, &mut self.reader, max, &mut self.faults)
     }
 }
 
@@ -70,7 +71,7 @@ impl<I: Read + Drop> In for RealIn<I> {
 #[derive(Debug, Drop)]
 pub struct RealOut<R: Print + Drop> {
     rt: R,
-    counts: Counts,
+    faults: FaultCount,
 }
 
 impl<R: Print + Drop> RealOut<R> {
@@ -78,7 +79,7 @@ impl<R: Print + Drop> RealOut<R> {
     pub fn make(rt: R) -> RealOut<R> {
         RealOut {
             rt,
-            counts: Counts::new(),
+            faults: FaultCount::new(),
         }
     }
 
@@ -92,19 +93,16 @@ impl<R: Print + Drop> RealOut<R> {
 impl<R: Print + Drop> Out for RealOut<R> {
     ghost use Rattle.std.specs.Prelude.{None};
 
-    ghost told = { λ _. None };
-
-    ghost faults = { λ out. out.counts.faults };
+    ghost state = { λ out. record { told = None; faults = out.faults.count } };
 
     fn faults(&self) -> u64 {
-        self.counts.faults
+        self.faults.count
     }
 
     fn put(&mut self, bytes: &[u8]) -> Result<(), Failed> {
-        if self.write(bytes).is_err() {
-            self.counts.fault();
-            return Err(Failed);
+        match self.write(bytes) {
+            Ok(()) => Ok(()),
+            Err(_) => Err(refused(&mut self.faults)),
         }
-        Ok(())
     }
 }

@@ -1,20 +1,16 @@
-use Rattle.std.proofs.Common.{ap, ◌∙◌}
+use Rattle.std.proofs.Common.{ap, lit≤, ◌∙◌}
+use Rattle.conda_dev.specs.Hosts.{back_after_call, lent_and_returned}
+use Rattle.conda_dev.specs.Lanes.{map_write}
 use Rattle.conda_dev.specs.Tree.{together}
-use Rattle.conda_dev.proofs.HostLemmas.{lent_and_returned}
-use Rattle.conda_dev.proofs.LaneLemmas.{map_write}
 use Rattle.conda_cli.proofs.history_file.read_first.Goals as goal
 
-pub returns-in-Ok-read-clause-trees : goal.returns-in-Ok-read-clause-trees
-returns-in-Ok-read-clause-trees g c =
-    lent_and_returned c.args.prefix.now _ (g.H.Host.told c.lanes.new.self) _ c.lanes.ensures.others c.take_back.ensures.others
-    (c.take_back.ensures.tree ∙ ap together (map_write g.H.Lane.Lane.told c.in-Ok.lanes.items 0 c.index_mut.result.now c.read-read.new.self c.read-read.ensures.tree c.index_mut.ensures.value) ∙ c.in-Ok.ensures.tree)
+pub returns-clause-trees : goal.returns-clause-trees
+returns-clause-trees g c =
+    let back = c.take_back.ensures in
+    let written = map_write g.H.Lane.Lane.told c.in-Ok.lanes.items 0 c.index_mut.result.now c.read-read.new.self c.read-read.ensures.tree c.index_mut.ensures.value in
+    lent_and_returned c.args.prefix.now _ _ _ c.lanes.ensures.others back.others (back.tree ∙ ap together written ∙ c.in-Ok.ensures.tree)
 
-pub returns-in-Err-Failed-read-clause-trees : goal.returns-in-Err-Failed-read-clause-trees
-returns-in-Err-Failed-read-clause-trees g c =
-    lent_and_returned c.args.prefix.now _ (g.H.Host.told c.lanes.new.self) _ c.lanes.ensures.others c.take_back.ensures.others
-    (c.take_back.ensures.tree ∙ ap together (map_write g.H.Lane.Lane.told c.in-Ok.lanes.items 0 c.index_mut.result.now c.read-read.new.self c.read-read.ensures.tree c.index_mut.ensures.value) ∙ c.in-Ok.ensures.tree)
-
-pub returns-in-Err-Memory-read-clause-trees : goal.returns-in-Err-Memory-read-clause-trees
-returns-in-Err-Memory-read-clause-trees g c =
-    lent_and_returned c.args.prefix.now _ (g.H.Host.told c.lanes.new.self) _ c.lanes.ensures.others c.take_back.ensures.others
-    (c.take_back.ensures.tree ∙ ap together (map_write g.H.Lane.Lane.told c.in-Ok.lanes.items 0 c.index_mut.result.now c.read-read.new.self c.read-read.ensures.tree c.index_mut.ensures.value) ∙ c.in-Ok.ensures.tree)
+pub take_back-requires : goal.take_back-requires
+take_back-requires g c =
+    back_after_call _ _ _ c.args.prefix.now 1 0 c.in-Ok.lanes.items c.index_mut.result.now c.read-read.new.self _ _
+    c.in-Ok.ensures.lent (lit≤ tt) c.in-Ok.ensures.lanes c.index_mut.ensures.value c.read-read.ensures.number c.read-read.ensures.lanes

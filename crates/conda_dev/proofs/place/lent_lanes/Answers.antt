@@ -14,4 +14,4 @@ returns c =
     let e : c.loop-number.number ≡ c.args.lanes = omega arith in
     let far = subst (λ n. SoFar n c.args.lanes c.args.from.now c.loop-number.made.items) e c.loop-number.invariant in
     let all = ended c.args.lanes c.args.from.now c.loop-number.made.items c.requires far in
-    record { count = all.0; placed = all.1; unharmed = all.2; tree = all.3 }
+    record { lanes = all.0; tree = all.1 }

@@ -1,16 +1,15 @@
-use Rattle.std.proofs.Common.{◌≡◌, ◌+◌, subst, sym, arith}
-use Rattle.conda_dev.proofs.LaneLemmas.{LinesUp, one_more_lane, all_lanes}
+use Rattle.std.proofs.Common.{◌≡◌, subst, arith}
+use Rattle.conda_dev.specs.Lanes.{LinesUp, one_more_lane, all_lanes}
 use Rattle.conda_real.specs.RealLanes.{number_of, lanes_of, faults_of}
 use Rattle.conda_real.proofs.host.all_lanes.Goals as goal
 
 pub loop-number-preserved : goal.loop-number-preserved
 loop-number-preserved g c =
     let more = one_more_lane number_of lanes_of faults_of c.loop-number.number c.args.lanes c.loop-number.made.items c.make.result c.loop-number.invariant c.make.ensures.number c.make.ensures.lanes c.make.ensures.unharmed in
-    subst (LinesUp number_of lanes_of faults_of (c.loop-number.number + 1) c.args.lanes) (sym c.in_ok-push.ensures.items) more
+    rw c.in_ok-push.ensures.items more
 
 pub returns : goal.returns
 returns g c =
     let e : c.loop-number.number ≡ c.args.lanes = omega arith in
     let lined = subst (λ n. LinesUp number_of lanes_of faults_of n c.args.lanes c.loop-number.made.items) e c.loop-number.invariant in
-    let all = all_lanes number_of lanes_of faults_of c.args.lanes c.loop-number.made.items lined in
-    record { count = all.0; placed = all.1; unharmed = lined.unharmed }
+    all_lanes number_of lanes_of faults_of c.args.lanes c.loop-number.made.items lined

@@ -1,4 +1,4 @@
-use Rattle.conda_dev.proofs.LaneLemmas.{LinesUp}
+use Rattle.conda_dev.specs.Lanes.{LinesUp}
 use Rattle.conda_real.specs.RealLanes.{number_of, lanes_of, faults_of}
 use Rattle.conda_real.proofs.host.all_lanes.Given as goal
 

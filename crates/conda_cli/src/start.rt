@@ -1,0 +1,38 @@
+ghost use Rattle.std.specs.Prelude.{◌≡◌, MatchOption, None, Some, map, string_bytes};
+ghost use Rattle.conda_cli.specs.Start.{asked, rooted};
+
+/// What `--version` prints.
+pub const VERSION: &str = "conda 0.1.0\n";
+
+/// What `--help` prints.
+pub const HELP: &str = "\
+usage: conda [--root DIR] COMMAND ..
+
+  list -p PREFIX    lists the packages of the environment at PREFIX
+
+--root DIR puts the folder DIR in front of every prefix.
+";
+
+/// The text that `--help` or `--version` as the first word asks for. It takes no memory.
+pub fn asked_text(words: &[String]) -> Option<&'static str>
+    ensures { MatchOption result (asked HELP.now VERSION.now (map string_bytes words.now) ≡ None)
+        (λ text. asked HELP.now VERSION.now (map string_bytes words.now) ≡ Some text.now) }
+{
+    match words {
+        [first, ..] if first.as_str() == "--help" => Some(HELP),
+        [first, ..] if first.as_str() == "--version" => Some(VERSION),
+        _ => None,
+    }
+}
+
+/// The folder that `--root DIR` in front names, else the empty text; and the words that are left. It
+/// takes no memory.
+pub fn split_root(words: &[String]) -> (&str, &[String])
+    ensures root { result.0.now ≡ (rooted (map string_bytes words.now)).0 }
+    ensures rest { map string_bytes result.1.now ≡ (rooted (map string_bytes words.now)).1 }
+{
+    match words {
+        [option, folder, rest @ ..] if option.as_str() == "--root" => (folder.as_str(), rest),
+        _ => ("", words),
+    }
+}

@@ -1,9 +1,0 @@
--- the total so far, with the counts that are left, is the whole one
-use Rattle.std.proofs.Common.{◌≡◌, ◌+◌, ◌-◌, ◌^◌, ◌<◌, min, sum_by, drop}
-use Rattle.conda_real.specs.RealLanes.{faults_of}
-use Rattle.conda_real.proofs.host.total_faults.Given as goal
-
-abbrev pub invariant-loop-lane : goal.invariant-loop-lane
-invariant-loop-lane g l =
-    (l.total < 2 ^ 64)
-    × (min (l.total + sum_by faults_of (drop l.lane-index l.lanes)) (2 ^ 64 - 1) ≡ min (l.before + sum_by faults_of l.lanes) (2 ^ 64 - 1))

@@ -1,0 +1,236 @@
+ghost use Rattle.std.specs.Prelude.{◌≡◌, false};
+
+use crate::plan::plan_of;
+use conda_base::{Bytes, Text};
+use conda_dev::{Clock, FixedClock, Host, In, Lane, MemHost, MemIn, MemLane, MemOut, Out, Seen, Tree};
+use conda_path::{Kind, Node, Prefix, RelPath};
+use rows_text::shown;
+use std::alloc::{AllocError, Global};
+
+/// The rows of conda_dev. The first argument is a plan of failing calls, the second of `lane` and `host` a tree of
+/// nodes `PATH KIND TEXT`, parted by `;`.
+pub fn answer(alloc: Global, call: &str, arguments: &[Text]) -> Result<Option<String>, AllocError> {
+    match (call, arguments) {
+        ("lane.look", [plan, tree, paths]) => {
+            look_in_lane(alloc, plan.as_str(), tree.as_str(), paths.as_str())
+        }
+        ("lane.read", [tree, path, max]) => {
+            read_in_lane(alloc, tree.as_str(), path.as_str(), max.as_str())
+        }
+        ("host.look", [plan, tree, paths]) => {
+            look_in_host(alloc, plan.as_str(), tree.as_str(), paths.as_str())
+        }
+        ("output.put", [plan, texts]) => put_all(alloc, plan.as_str(), texts.as_str()),
+        ("input.take", [plan, text, sizes]) => {
+            take_all(alloc, plan.as_str(), text.as_str(), sizes.as_str())
+        }
+        ("clock.now", [now]) => clock(alloc, now.as_str()),
+        _ => Ok(None),
+    }
+}
+
+fn kind_of(word: &str) -> Kind {
+    match word {
+        "exec" => Kind::Exec,
+        "soft" => Kind::Soft,
+        _ => Kind::File,
+    }
+}
+
+fn kind_word(kind: Kind) -> &'static str {
+    match kind {
+        Kind::File => "file",
+        Kind::Exec => "exec",
+        Kind::Soft => "soft",
+    }
+}
+
+fn tree_of(alloc: Global, text: &str) -> Result<Tree, AllocError> {
+    let mut tree = Tree::new(alloc);
+    for entry in text.split(';') {
+        let Some((path, rest)) = entry.split_once(' ') else {
+            continue;
+        };
+        let Some((kind, bytes)) = rest.split_once(' ') else {
+            continue;
+        };
+        let Ok(path) = RelPath::read(alloc, path) else {
+            continue;
+        };
+        let bytes = Bytes::from_slice(alloc, bytes.as_bytes())?;
+        let kind = kind_of(kind);
+        tree.put(path, Node { kind, bytes })?;
+    }
+    Ok(tree)
+}
+
+/// What a look came to, and the count of faults.
+fn push_look(
+    made: &mut String,
+    alloc: Global,
+    seen: Option<Option<Seen>>,
+    faults: u64,
+) -> Result<(), AllocError> {
+    if !made.is_empty() {
+        made.push_str("; ")?;
+    }
+    let text = match seen {
+        Some(Some(seen)) => {
+            let word = kind_word(seen.kind);
+            let size = seen.size;
+            format!(in alloc; "{word} {size}, {faults} faults")?
+        }
+        Some(None) => format!(in alloc; "none, {faults} faults")?,
+        None => format!(in alloc; "failed, {faults} faults")?,
+    };
+    made.push_str(text.as_str())
+}
+
+fn look_in_lane(
+    alloc: Global,
+    plan: &str,
+    tree: &str,
+    paths: &str,
+) -> Result<Option<String>, AllocError> {
+    let mut lane = MemLane::make(alloc, 0, 1, tree_of(alloc, tree)?, plan_of(alloc, plan)?)?;
+    let mut made = String::new(alloc);
+    for path in paths.split_whitespace() {
+        let Ok(path) = RelPath::read(alloc, path) else {
+            return Ok(None);
+        };
+        let seen = lane.look(&path).ok();
+        push_look(&mut made, alloc, seen, lane.faults())?;
+    }
+    Ok(Some(made))
+}
+
+fn read_in_lane(
+    alloc: Global,
+    tree: &str,
+    path: &str,
+    max: &str,
+) -> Result<Option<String>, AllocError> {
+    let mut lane = MemLane::make(alloc, 0, 1, tree_of(alloc, tree)?, Vec::new(alloc))?;
+    let (Ok(path), Ok(max)) = (RelPath::read(alloc, path), max.parse::<u64>()) else {
+        return Ok(None);
+    };
+    let Ok(Some(node)) = lane.read(alloc, &path, max) else {
+        return Ok(None);
+    };
+    let word = kind_word(node.kind);
+    let Ok(text) = str::from_utf8(node.bytes.as_slice()) else {
+        return Ok(None);
+    };
+    Ok(Some(format!(in alloc; "{word} {text}")?))
+}
+
+/// Lends a prefix, looks at a path in the first lane where it is the only one, and takes the prefix back.
+fn look_once<H: Host>(
+    alloc: Global,
+    host: &mut H,
+    prefix: &Prefix,
+    path: &RelPath,
+) -> Option<Option<Seen>>
+    requires { (H.state host.old).lent prefix.now ≡ false }
+    ensures { (H.state host.new).lent prefix.now ≡ false }
+{
+    let Ok(mut lanes) = host.lanes(alloc, prefix, "", 1) else {
+        return None;
+    };
+    let seen = lanes[0].look(path);
+    host.take_back(prefix, lanes);
+    seen.ok()
+}
+
+fn look_in_host(
+    alloc: Global,
+    plan: &str,
+    tree: &str,
+    paths: &str,
+) -> Result<Option<String>, AllocError> {
+    let Ok(prefix) = Prefix::read(alloc, "/e") else {
+        return Ok(None);
+    };
+    let mut prefixes = Vec::new(alloc);
+    prefixes.push((prefix.clone()?, tree_of(alloc, tree)?))?;
+    let mut host = MemHost::make(alloc, prefixes, plan_of(alloc, plan)?)?;
+    look_at_all(alloc, &mut host, &prefix, paths)
+}
+
+fn look_at_all<H: Host>(
+    alloc: Global,
+    host: &mut H,
+    prefix: &Prefix,
+    paths: &str,
+) -> Result<Option<String>, AllocError>
+    requires { (H.state host.old).lent prefix.now ≡ false }
+{
+    let mut made = String::new(alloc);
+    for path in paths.split_whitespace() {
+        let Ok(path) = RelPath::read(alloc, path) else {
+            return Ok(None);
+        };
+        let seen = look_once(alloc, host, prefix, &path);
+        push_look(&mut made, alloc, seen, host.faults())?;
+    }
+    Ok(Some(made))
+}
+
+fn put_all(alloc: Global, plan: &str, texts: &str) -> Result<Option<String>, AllocError> {
+    let mut out = MemOut::make(alloc, plan_of(alloc, plan)?)?;
+    let mut made = String::new(alloc);
+    for text in texts.split_whitespace() {
+        made.push_str(match out.put(text.as_bytes()) {
+            Ok(()) => "ok ",
+            Err(_) => "failed ",
+        })?;
+    }
+    let faults = out.faults();
+    let Ok(all) = str::from_utf8(out.bytes()) else {
+        return Ok(None);
+    };
+    let all = shown(alloc, all)?;
+    let all = all.as_str();
+    let made = made.as_str();
+    Ok(Some(format!(in alloc; "{made}{all}, {faults} faults")?))
+}
+
+fn take_all(
+    alloc: Global,
+    plan: &str,
+    text: &str,
+    sizes: &str,
+) -> Result<Option<String>, AllocError> {
+    let bytes = Vec::from_slice(alloc, text.as_bytes())?;
+    let mut input = MemIn::make(alloc, bytes, plan_of(alloc, plan)?)?;
+    let mut made = String::new(alloc);
+    for size in sizes.split_whitespace() {
+        let Ok(size) = size.parse::<usize>() else {
+            return Ok(None);
+        };
+        if size == 0 {
+            return Ok(None);
+        }
+        let taken = input.take(alloc, size);
+        let text = match &taken {
+            Ok(bytes) => str::from_utf8(bytes).unwrap_or("?"),
+            Err(_) => "failed",
+        };
+        made.push('[')?;
+        made.push_str(text)?;
+        made.push_str("] ")?;
+    }
+    let faults = input.faults();
+    let made = made.as_str();
+    Ok(Some(format!(in alloc; "{made}{faults} faults")?))
+}
+
+fn clock(alloc: Global, now: &str) -> Result<Option<String>, AllocError> {
+    let Ok(now) = now.parse::<u64>() else {
+        return Ok(None);
+    };
+    let mut clock = FixedClock::make(now);
+    let first = clock.now();
+    let second = clock.now();
+    Ok(Some(format!(in alloc; "{first} {second}")?))
+}
