@@ -1,9 +1,11 @@
 ghost use Rattle.std.specs.Prelude.{◌≡◌, false};
 
-use crate::plan::plan_of;
 use conda_base::{Bytes, Text};
-use conda_dev::{Clock, FixedClock, Host, In, Lane, MemHost, MemIn, MemLane, MemOut, Out, Seen, Tree};
+use conda_dev::{
+    Clock, DeviceErr, FixedClock, Host, In, Lane, MemHost, MemIn, MemLane, MemOut, Out, Seen, Tree,
+};
 use conda_path::{Kind, Node, Prefix, RelPath};
+use rows_plan::plan_of;
 use rows_text::shown;
 use std::alloc::{AllocError, Global};
 
@@ -211,18 +213,25 @@ fn take_all(
         if size == 0 {
             return Ok(None);
         }
-        let taken = input.take(alloc, size);
-        let text = match &taken {
-            Ok(bytes) => str::from_utf8(bytes).unwrap_or("?"),
-            Err(_) => "failed",
-        };
-        made.push('[')?;
-        made.push_str(text)?;
-        made.push_str("] ")?;
+        push_taken(&mut made, input.take(alloc, size))?;
     }
     let faults = input.faults();
     let made = made.as_str();
     Ok(Some(format!(in alloc; "{made}{faults} faults")?))
+}
+
+fn push_taken(made: &mut String, taken: Result<Vec<u8>, DeviceErr>) -> Result<(), AllocError> {
+    match taken {
+        Ok(bytes) => push_bracketed(made, str::from_utf8(bytes.as_slice()).unwrap_or("?")),
+        Err(_) => push_bracketed(made, "failed"),
+    }
+}
+
+fn push_bracketed(made: &mut String, text: &str) -> Result<(), AllocError> {
+    made.push('[')?;
+    made.push_str(text)?;
+    made.push_str("] ")?;
+    Ok(())
 }
 
 fn clock(alloc: Global, now: &str) -> Result<Option<String>, AllocError> {

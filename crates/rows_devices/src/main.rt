@@ -1,7 +1,8 @@
 //! The rows of the devices and of the machine over events.
 #![tactic(auto)]
 
-mod core;
+mod dev;
+mod machine;
 
 use conda_base::Text;
 use rows_text::{Table, print_rows};
@@ -17,7 +18,10 @@ impl Table for Devices {
         call: &str,
         arguments: &[Text],
     ) -> Result<Option<String>, AllocError> {
-        core::answer(alloc, call, arguments)
+        if let Some(answer) = machine::answer(alloc, call, arguments)? {
+            return Ok(Some(answer));
+        }
+        dev::answer(alloc, call, arguments)
     }
 }
 

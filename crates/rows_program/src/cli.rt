@@ -1,8 +1,8 @@
-use crate::plan::plan_of;
 use conda_base::{Bytes, Text};
 use conda_cli::{asked_text, run, split_root};
 use conda_dev::{FixedClock, MemHost, MemIn, MemOut, Tree};
 use conda_path::{Kind, Node, Prefix, RelPath};
+use rows_plan::plan_of;
 use rows_text::shown;
 use std::alloc::{AllocError, Global};
 use std::sync::Wait;

@@ -1,24 +1,32 @@
 //! The rows of whole commands.
 #![tactic(auto)]
 
+mod cli;
+
 use conda_base::Text;
 use rows_text::{Table, print_rows};
 use std::alloc::{AllocError, Global};
 use std::io;
+use std::sync::Wait;
+use std::thread::Threads;
 
-struct Program;
+#[derive(Drop)]
+struct Program<R> {
+    rt: R,
+}
 
-impl Table for Program {
+impl<R: Threads + Wait> Table for Program<R> {
     fn answer(
         &self,
-        _alloc: Global,
-        _call: &str,
-        _arguments: &[Text],
+        alloc: Global,
+        call: &str,
+        arguments: &[Text],
     ) -> Result<Option<String>, AllocError> {
-        Ok(None)
+        cli::answer(&self.rt, alloc, call, arguments)
     }
 }
 
 fn main(rt: HostRuntime) -> io::Result<()> {
-    print_rows(&rt, &Program)
+    let program = Program { rt: rt.clone()? };
+    print_rows(&rt, &program)
 }
