@@ -2,7 +2,7 @@
 use Rattle.std.proofs.Common.{◌≡◌, ◌≢◌, ℕ, zero, suc, ◌-◌, ◌*◌, ◌≤◌, ◌<◌, ◌⊎◌, inl, inr, Bool, true, false, cond, not, ◌&&◌, ◌||◌, ◌==◌, List, [], ◌∷◌, ◌++◌, length, map, replicate, sum_by, slice_get, slice_set, get_or, unwrap_or, Option, Some, None, is_some, is_none, Result, Ok, Err, refl, sym, ◌∙◌, ap, subst, arith}
 use Rattle.std.specs.List.{list_all}
 use Rattle.std.specs.Option.{option_map, option_map_or}
-use Rattle.std.proofs.lemmas.Bool.{cases_eq, cases_Bool}
+use Rattle.std.proofs.lemmas.Bool.{and_parts, cases_eq, cases_Bool, eqb-true, not-true, or_left}
 use Rattle.std.proofs.lemmas.Bool.Decides.{nat_tests}
 use Rattle.std.proofs.lemmas.Option.{slice_get_within, slice_get_cases, slice_get-map, get_or_from_slice_get}
 use Rattle.std.proofs.lemmas.List.{length-append, length-replicate, get_or-replicate}
@@ -26,7 +26,7 @@ use Rattle.conda_core.specs.Machine.{new_word, new_core, last_set_of, pins_of, i
 use Rattle.conda_core.specs.Rules.{EnvRules, Rules}
 use Rattle.conda_core.proofs.ListLemmas.{times_in, times-has, has-times}
 use Rattle.conda_core.proofs.SlotLemmas.{part_of_sum, replaced_at, Moves, moves}
-use Rattle.conda_core.proofs.StepLemmas.{both, not_true, unlisted, step_moves}
+use Rattle.conda_core.proofs.StepLemmas.{unlisted, step_moves}
 
 -- where a core begins
 
@@ -192,12 +192,12 @@ stepped c seat i op v w w' r at is next need free =
 
 with_word : (c : Core) (seat i : ℕ) (op : SlotOp) (v : View) (w : Word) (n : Option Word) → Rules c → slice_get c.seats seat ≡ Some v → slice_get c.slots i ≡ Some w → next_word w op ≡ n → (meets_need op i v && not (is_kept op i (last_set_of c.envs seat)) && is_some n) ≡ true → Rules (record { slots = slice_set c.slots i (unwrap_or n w); seats = slice_set c.seats seat (next_view w op i v); envs = c.envs })
 with_word c seat i op v w None r at is next on =
-    let a = both (meets_need op i v && not (is_kept op i (last_set_of c.envs seat))) false on in
+    let a = and_parts (meets_need op i v && not (is_kept op i (last_set_of c.envs seat))) false on in
     absurd (cc)
 with_word c seat i op v w (Some w') r at is next on =
-    let a = both (meets_need op i v && not (is_kept op i (last_set_of c.envs seat))) true on in
-    let b = both (meets_need op i v) (not (is_kept op i (last_set_of c.envs seat))) a.0 in
-    stepped c seat i op v w w' r at is next b.0 (not_true _ b.1)
+    let a = and_parts (meets_need op i v && not (is_kept op i (last_set_of c.envs seat))) true on in
+    let b = and_parts (meets_need op i v) (not (is_kept op i (last_set_of c.envs seat))) a.0 in
+    stepped c seat i op v w w' r at is next b.0 (not-true _ b.1)
 
 with_lists : (c : Core) (seat i : ℕ) (op : SlotOp) (o : Option View) (p : Option Word) → Rules c → slice_get c.seats seat ≡ o → slice_get c.slots i ≡ p → step_enabled op i (last_set_of c.envs seat) o p ≡ true → Rules (record { slots = words_after c.slots i op p; seats = seats_after c.seats seat i op o p; envs = c.envs })
 with_lists c seat i op None p r at is on = absurd (cc)
@@ -206,18 +206,15 @@ with_lists c seat i op (Some v) (Some w) r at is on = with_word c seat i op v w 
 
 -- an event on an environment
 
-same_slot : (x i : ℕ) → (x == i) ≡ true → x ≡ i
-same_slot x i h = grind (arith, nat_tests)
-
 -- of a list of which each is pinned, each is pinned
 have_more : (x i : ℕ) (pins : List ℕ) (b h : Bool) → (x == i) ≡ b → (b || h) ≡ true → has x pins ≡ true → (h ≡ true → has i pins ≡ true) → has i pins ≡ true
-have_more x i pins true h e o p f = let P : ℕ → Type 0 = λ y. has y pins ≡ true in subst P (same_slot x i e) p
+have_more x i pins true h e o p f = let P : ℕ → Type 0 = λ y. has y pins ≡ true in subst P (eqb-true x i e) p
 have_more x i pins false h e o p f = f o
 
 all_have : (set pins : List ℕ) (i : ℕ) → list_all (λ x. has x pins) set ≡ true → has i set ≡ true → has i pins ≡ true
 all_have [] pins i all h = absurd (cc)
 all_have (x ∷ xs) pins i all h =
-    let a = both (has x pins) (list_all (λ y. has y pins) xs) all in
+    let a = and_parts (has x pins) (list_all (λ y. has y pins) xs) all in
     have_more x i pins (x == i) (has i xs) refl h a.0 (all_have xs pins i a.1)
 
 at_end : {X : Type 0} (xs : List X) (x : X) → slice_get (xs ++ x ∷ []) (length xs) ≡ Some x
@@ -245,14 +242,11 @@ gone : (o : Option (List ℕ)) (b : Bool) → (is_some o || b) ≡ true → o �
 gone None b h e = h
 gone (Some t) b h e = absurd (cc)
 
-left_or : (a b : Bool) → a ≡ true → (a || b) ≡ true
-left_or a b h = ap (λ x. x || b) h
-
 opened : (env : CoreEnv) → is_open env ≡ true → (is_some env.owner ≡ true) × (env.broken ≡ false) × (env.tree ≡ None)
 opened env h =
-    let a = both (is_some env.owner && not env.broken) (is_none env.tree) h in
-    let b = both (is_some env.owner) (not env.broken) a.0 in
-    (b.0, not_true _ b.1, none_is env.tree a.1)
+    let a = and_parts (is_some env.owner && not env.broken) (is_none env.tree) h in
+    let b = and_parts (is_some env.owner) (not env.broken) a.0 in
+    (b.0, not-true _ b.1, none_is env.tree a.1)
 
 -- with the tree of its last revision an environment keeps its rules
 whole_tree : (slots : List Word) (seats : List View) (n : ℕ) (revs : List (List ℕ)) (owner : Option ℕ) (broken : Bool) → ((i : ℕ) → has i (last_set revs) ≡ true → has i (pins_of seats n) ≡ true) → SlotRule slots seats → EnvRules slots seats n (record { owner = owner; revs = revs; tree = Some (last_set revs); broken = broken })
@@ -276,17 +270,17 @@ change_keeps slots seats n env (Lock e by) rule r on =
       no_tree = λ h. refl;
     }
 change_keeps slots seats n env (Begin e) rule r on =
-    let a = both (is_some env.owner && not env.broken) (is_some env.tree) on in
-    let b = both (is_some env.owner) (not env.broken) a.0 in
+    let a = and_parts (is_some env.owner && not env.broken) (is_some env.tree) on in
+    let b = and_parts (is_some env.owner) (not env.broken) a.0 in
     record {
       pinned = r.pinned;
       ready = r.ready;
       at_rest = λ o z. absurd (some_is env.owner b.0 o);
       tree = λ t h. absurd (cc);
-      no_tree = λ h. left_or (is_some env.owner) env.broken b.0;
+      no_tree = λ h. or_left (is_some env.owner) env.broken b.0;
     }
 change_keeps slots seats n env (Commit e set) rule r on =
-    let a = both (is_open env) (list_all (λ i. has i (pins_of seats n)) set) on in
+    let a = and_parts (is_open env) (list_all (λ i. has i (pins_of seats n)) set) on in
     let last = last_of_push env.revs set in
     let P : List ℕ → Type 0 = λ s. EnvRules slots seats n (record { owner = env.owner; revs = env.revs ++ set ∷ []; tree = Some s; broken = env.broken }) in
     let Q : (s : List ℕ) → Type 0 = λ s. (i : ℕ) → has i s ≡ true → has i (pins_of seats n) ≡ true in
@@ -299,11 +293,11 @@ change_keeps slots seats n env (Break e) rule r on =
       ready = r.ready;
       at_rest = λ o b. absurd (cc);
       tree = r.tree;
-      no_tree = λ h. left_or (is_some env.owner) true a.0;
+      no_tree = λ h. or_left (is_some env.owner) true a.0;
     }
 change_keeps slots seats n env (Mend e) rule r on = whole_tree slots seats n env.revs env.owner false r.pinned rule
 change_keeps slots seats n env (Unlock e) rule r on =
-    let a = both (is_some env.owner) (is_some env.tree || env.broken) on in
+    let a = and_parts (is_some env.owner) (is_some env.tree || env.broken) on in
     record {
       pinned = r.pinned;
       ready = r.ready;

@@ -1,6 +1,8 @@
 -- Each of the eight steps moves as the slot rule wants.
 use Rattle.std.proofs.Common.{◌≡◌, ℕ, ◌+◌, ◌-◌, ◌≤◌, ◌<◌, inl, inr, Bool, true, false, cond, not, ◌&&◌, ◌==◌, nat_lt, Option, Some, None, refl, ap, subst, arith}
+use Rattle.std.proofs.lemmas.Bool.{and_parts, not-true}
 use Rattle.std.proofs.lemmas.Bool.Decides.{nat_tests}
+use Rattle.std.proofs.lemmas.Option.{cond_some}
 use Rattle.conda_core.specs.declared.word.SlotState.{SlotState}
 use Rattle.conda_core.specs.declared.word.SlotState.TheVariants.{Empty, Busy, Ready}
 use Rattle.conda_core.specs.declared.word.SlotOp.{SlotOp}
@@ -13,27 +15,15 @@ use Rattle.conda_core.specs.Seat.{is_unlisted, meets_need, pin_in, try_in, busy_
 use Rattle.conda_core.proofs.ListLemmas.{one, times_in, times_in_other, times_out, times_out_other, times-has, times-hasnt}
 use Rattle.conda_core.proofs.SlotLemmas.{Moves}
 
-pub both : (x y : Bool) → (x && y) ≡ true → (x ≡ true) × (y ≡ true)
-both true y h = (refl, h)
-both false y h = absurd (cc)
-
-pub not_true : (x : Bool) → not x ≡ true → x ≡ false
-not_true true h = absurd (cc)
-not_true false h = refl
-
-pub some_if : {A : Type 0} (b : Bool) (x y : A) → cond b (Some x) None ≡ Some y → (b ≡ true) × (x ≡ y)
-some_if true x y h = (refl, cc)
-some_if false x y h = absurd (cc)
-
 pub if_some : {A : Type 0} (b : Bool) (o : Option A) (y : A) → cond b o None ≡ Some y → (b ≡ true) × (o ≡ Some y)
 if_some true o y h = (refl, h)
 if_some false o y h = absurd (cc)
 
 pub unlisted : (i : ℕ) (v : View) → is_unlisted i v ≡ true → (times i v.pins ≡ 0) × (times i v.tries ≡ 0) × (times i v.busy ≡ 0)
 unlisted i v h =
-    let a = both (not (has i v.pins) && not (has i v.tries)) (not (has i v.busy)) h in
-    let b = both (not (has i v.pins)) (not (has i v.tries)) a.0 in
-    (times-hasnt i v.pins (not_true _ b.0), times-hasnt i v.tries (not_true _ b.1), times-hasnt i v.busy (not_true _ a.1))
+    let a = and_parts (not (has i v.pins) && not (has i v.tries)) (not (has i v.busy)) h in
+    let b = and_parts (not (has i v.pins)) (not (has i v.tries)) a.0 in
+    (times-hasnt i v.pins (not-true _ b.0), times-hasnt i v.tries (not-true _ b.1), times-hasnt i v.busy (not-true _ a.1))
 
 ready_not_busy : (s : SlotState) → is_ready_state s ≡ true → is_busy_state s ≡ false
 ready_not_busy Empty h = refl
@@ -172,30 +162,30 @@ moves_to i w x w' v nv e m = let P : Word → Type 0 = λ y. Moves i w y v nv in
 
 free_at : (b c : Bool) (n : ℕ) → (b && (n == 0)) ≡ true → (b ≡ true → c ≡ false) → (n ≡ 0) × (c ≡ false)
 free_at b c n h f =
-    let p = both b (n == 0) h in
+    let p = and_parts b (n == 0) h in
     (grind (arith, nat_tests), f p.0)
 
 -- what the table says of a step is a move
 pub step_moves : (op : SlotOp) (i : ℕ) (w w' : Word) (v : View) → listed i v ≤ 1 → (is_ready_state w.state ≡ false → times i v.pins ≡ 0) → meets_need op i v ≡ true → next_word w op ≡ Some w' → Moves i w w' v (next_view w op i v)
 step_moves Load i w w' v once free need is = moves_to i w w w' v v (cc) (stays i w v once free)
 step_moves Try i w w' v once free need is =
-    let e = some_if _ _ _ is in
+    let e = cond_some _ _ _ is in
     moves_to i w _ w' v _ e.1 (try_moves i w v (is_ready_state w.state) refl need)
 step_moves Back i w w' v once free need is =
-    let e = some_if _ _ _ is in
+    let e = cond_some _ _ _ is in
     moves_to i w _ w' v _ e.1 (back_moves i w v e.0 need once)
 step_moves Unpin i w w' v once free need is =
     let r = if_some _ _ _ is in
-    let e = some_if _ _ _ r.1 in
+    let e = cond_some _ _ _ r.1 in
     moves_to i w _ w' v _ e.1 (unpin_moves i w v r.0 e.0 need once)
 step_moves Claim i w w' v once free need is =
     moves_to i w _ w' v _ (cc) (take_moves i w v (is_free_in Empty w) (λ h. free_at _ _ _ h (empty_not_busy w.state)) need free)
 step_moves Publish i w w' v once free need is =
     let r = if_some _ _ _ is in
-    let e = some_if _ _ _ r.1 in
+    let e = cond_some _ _ _ r.1 in
     moves_to i w _ w' v _ e.1 (publish_moves i w v r.0 need once)
 step_moves Abandon i w w' v once free need is =
-    let e = some_if _ _ _ is in
+    let e = cond_some _ _ _ is in
     moves_to i w _ w' v _ e.1 (abandon_moves i w v e.0 need once)
 step_moves Take i w w' v once free need is =
     moves_to i w _ w' v _ (cc) (take_moves i w v (is_free_in Ready w) (λ h. free_at _ _ _ h (ready_not_busy w.state)) need free)

@@ -12,8 +12,7 @@ has i xs = list_any (λ x. x == i) xs
 
 -- how often the slot is in the list
 abbrev pub times : ℕ → List ℕ → ℕ
-times i [] = 0
-times i (x ∷ xs) = (if x == i then 1 else 0) + times i xs
+times i xs = count_by (λ x. x == i) xs
 
 -- how often a seat has the slot in `pins`
 abbrev pub pinned : ℕ → View → ℕ

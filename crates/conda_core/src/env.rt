@@ -9,7 +9,7 @@ use conda_base::{Copied, Rows};
 use std::alloc::{AllocError, Global};
 
 /// An environment, of which the core knows its lock, its revisions and its tree as sets of slots.
-#[derive(Debug, Drop)]
+#[derive(Clone, Debug, PartialEq, Eq, Drop)]
 pub struct CoreEnv {
     /// The seat whose actor has the lock.
     pub owner: Option<u32>,
@@ -21,27 +21,9 @@ pub struct CoreEnv {
     pub broken: bool,
 }
 
-impl CoreEnv {
-    /// An equal environment.
-    pub fn copy(&self, alloc: Global) -> Result<CoreEnv, AllocError>
-        ensures { IfOk result (λ e. e ≡ self.now) }
-    {
-        let tree = match &self.tree {
-            Some(set) => Some(set.copy(alloc)?),
-            None => None,
-        };
-        Ok(CoreEnv {
-            owner: self.owner,
-            revs: self.revs.copy(alloc)?,
-            tree,
-            broken: self.broken,
-        })
-    }
-}
-
 impl Copied for CoreEnv {
-    fn copied(&self, alloc: Global) -> Result<CoreEnv, AllocError> {
-        self.copy(alloc)
+    fn copy(&self) -> Result<CoreEnv, AllocError> {
+        self.clone()
     }
 }
 
@@ -81,7 +63,7 @@ fn last_set(alloc: Global, revs: &Rows<Rows<u32>>) -> Result<Rows<u32>, AllocErr
     ensures { IfOk result (λ set. set ≡ last_set revs.now) }
 {
     match revs.as_slice().last() {
-        Some(set) => set.copy(alloc),
+        Some(set) => set.copy(),
         None => Ok(Rows::new(alloc)),
     }
 }
@@ -121,8 +103,8 @@ pub(crate) fn change_env(alloc: Global, env: &mut CoreEnv, event: &Event) -> Res
         Event::Lock { by, .. } => env.owner = Some(*by),
         Event::Begin { .. } => env.tree = None,
         Event::Commit { set, .. } => {
-            let tree = set.copy(alloc)?;
-            env.revs.push(set.copy(alloc)?)?;
+            let tree = set.copy()?;
+            env.revs.push(set.copy()?)?;
             env.tree = Some(tree);
         }
         Event::Undo { .. } => env.tree = Some(last_set(alloc, &env.revs)?),

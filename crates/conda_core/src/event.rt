@@ -1,11 +1,9 @@
-ghost use Rattle.std.specs.Prelude.{◌≡◌, IfOk};
-
 use crate::word::SlotOp;
 use conda_base::{Copied, Rows};
-use std::alloc::{AllocError, Global};
+use std::alloc::AllocError;
 
 /// One step of one actor, which can't be divided. Slots, seats and environments go by their numbers from 0.
-#[derive(Debug, Drop)]
+#[derive(Clone, Debug, PartialEq, Eq, Drop)]
 pub enum Event {
     /// A seat makes a step on a slot.
     Slot { seat: u32, slot: u32, op: SlotOp },
@@ -25,33 +23,8 @@ pub enum Event {
     Unlock { env: u32 },
 }
 
-impl Event {
-    /// An equal event.
-    pub fn copy(&self, alloc: Global) -> Result<Event, AllocError>
-        ensures { IfOk result (λ e. e ≡ self.now) }
-    {
-        Ok(match self {
-            Event::Slot { seat, slot, op } => Event::Slot {
-                seat: *seat,
-                slot: *slot,
-                op: *op,
-            },
-            Event::Lock { env, by } => Event::Lock { env: *env, by: *by },
-            Event::Begin { env } => Event::Begin { env: *env },
-            Event::Commit { env, set } => Event::Commit {
-                env: *env,
-                set: set.copy(alloc)?,
-            },
-            Event::Undo { env } => Event::Undo { env: *env },
-            Event::Break { env } => Event::Break { env: *env },
-            Event::Mend { env } => Event::Mend { env: *env },
-            Event::Unlock { env } => Event::Unlock { env: *env },
-        })
-    }
-}
-
 impl Copied for Event {
-    fn copied(&self, alloc: Global) -> Result<Event, AllocError> {
-        self.copy(alloc)
+    fn copy(&self) -> Result<Event, AllocError> {
+        self.clone()
     }
 }

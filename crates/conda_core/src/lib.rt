@@ -13,6 +13,3 @@ pub use event::Event;
 pub use machine::{Core, CoreErr, every_run_keeps_the_rules, slot_rule_by_view};
 pub use seat::View;
 pub use word::{MAX_COUNT, SlotOp, SlotState, Word, slot_next};
-
-#[cfg(test)]
-mod tests;

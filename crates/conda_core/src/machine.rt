@@ -28,7 +28,7 @@ pub enum CoreErr {
 }
 
 /// The words of the slots, the lists of the seats and the environments. Seat `e` belongs to environment `e`.
-#[derive(Debug, Drop)]
+#[derive(Clone, Debug, PartialEq, Eq, Drop)]
 pub struct Core {
     pub slots: Rows<Word>,
     pub seats: Rows<View>,
@@ -36,23 +36,12 @@ pub struct Core {
 }
 
 impl Copied for Core {
-    fn copied(&self, alloc: Global) -> Result<Core, AllocError> {
-        self.copy(alloc)
+    fn copy(&self) -> Result<Core, AllocError> {
+        self.clone()
     }
 }
 
 impl Core {
-    /// An equal core.
-    pub fn copy(&self, alloc: Global) -> Result<Core, AllocError>
-        ensures { IfOk result (λ core. core ≡ self.now) }
-    {
-        Ok(Core {
-            slots: self.slots.copy(alloc)?,
-            seats: self.seats.copy(alloc)?,
-            envs: self.envs.copy(alloc)?,
-        })
-    }
-
     /// A core with a slot for each element of `ready`, Ready where it is true and else Empty. All counts are 0, all
     /// lists empty, and each environment has no owner, no revision and an empty tree.
     pub fn make(alloc: Global, ready: &[bool], seats: u32, envs: u32) -> Result<Core, CoreErr>
@@ -88,14 +77,28 @@ impl Core {
         }
     }
 
-    /// Applies events up to the first that isn't enabled, and answers how many it applied. Where memory is lacking, a
-    /// beginning of them was applied.
+    /// Applies events up to the first that isn't enabled, and answers how many it applied. Where memory is lacking, the
+    /// core is as before.
     pub fn run(&mut self, alloc: Global, events: &[Event]) -> Result<usize, CoreErr>
         ensures applied { IfOk result (λ n. n ≡ applied events.now self.old) }
         ensures after { OnOk result (self.new ≡ after events.now self.old) }
         ensures only_memory { IfErr result (λ e. e ≡ CoreErr.Memory) }
-        ensures memory { OnErr result ((n : ℕ) × (n < applied events.now self.old) × (self.new ≡ after (take n events.now) self.old)) }
+        ensures unchanged { OnErr result (self.new ≡ self.old) }
         ensures rules { Rules self.old → Rules self.new }
+    {
+        let mut core = self.copy()?;
+        let count = core.apply_all(alloc, events)?;
+        *self = core;
+        Ok(count)
+    }
+}
+
+impl Core {
+    /// As `run`; where memory is lacking, some of the events were applied.
+    fn apply_all(&mut self, alloc: Global, events: &[Event]) -> Result<usize, CoreErr>
+        ensures applied { IfOk result (λ n. n ≡ applied events.now self.old) }
+        ensures after { OnOk result (self.new ≡ after events.now self.old) }
+        ensures only_memory { IfErr result (λ e. e ≡ CoreErr.Memory) }
     {
         let mut count: usize = 0;
         for event in events {
@@ -107,9 +110,7 @@ impl Core {
         }
         Ok(count)
     }
-}
 
-impl Core {
     /// Applies a step on a slot.
     fn slot_event(&mut self, alloc: Global, seat: u32, slot: u32, op: SlotOp) -> Result<(), CoreErr>
         ensures { Applies (enabled self.old (Event.Slot seat slot op)) (effect self.old (Event.Slot seat slot op)) self.old self.new result }

@@ -1,4 +1,4 @@
-ghost use Rattle.std.specs.Prelude.{◌≡◌, [], IfOk, OnOk, OnErr, ◌==◌, not};
+ghost use Rattle.std.specs.Prelude.{◌≡◌, [], OnOk, OnErr, ◌==◌, not};
 ghost use Rattle.conda_core.specs.SlotRule.{has};
 ghost use Rattle.conda_core.specs.Seat.{no_lists, is_unlisted, with_slot, without_slot, meets_need, next_view};
 
@@ -8,7 +8,7 @@ use std::alloc::{AllocError, Global};
 use std::mem;
 
 /// What a seat has of the slots, by their numbers.
-#[derive(Debug, Drop)]
+#[derive(Clone, Debug, PartialEq, Eq, Drop)]
 pub struct View {
     /// Ready slots that stay as long as the seat pins them.
     pub pins: Rows<u32>,
@@ -18,22 +18,9 @@ pub struct View {
     pub busy: Rows<u32>,
 }
 
-impl View {
-    /// An equal view.
-    pub fn copy(&self, alloc: Global) -> Result<View, AllocError>
-        ensures { IfOk result (λ v. v ≡ self.now) }
-    {
-        Ok(View {
-            pins: self.pins.copy(alloc)?,
-            tries: self.tries.copy(alloc)?,
-            busy: self.busy.copy(alloc)?,
-        })
-    }
-}
-
 impl Copied for View {
-    fn copied(&self, alloc: Global) -> Result<View, AllocError> {
-        self.copy(alloc)
+    fn copy(&self) -> Result<View, AllocError> {
+        self.clone()
     }
 }
 

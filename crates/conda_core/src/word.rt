@@ -2,7 +2,7 @@ ghost use Rattle.std.specs.Prelude.{◌≡◌};
 ghost use Rattle.conda_core.specs.Word.{next_word, counted_more, counted_less, taken_from, is_free_in};
 
 use conda_base::Copied;
-use std::alloc::{AllocError, Global};
+use std::alloc::AllocError;
 
 /// The most that a word can count: a word is `4 * count + state` in 64 bits.
 pub const MAX_COUNT: u64 = (1 << 62) - 1;
@@ -46,18 +46,9 @@ pub struct Word {
     pub count: u64,
 }
 
-impl Word {
-    /// An equal word. It takes no memory.
-    pub fn copy(&self, _alloc: Global) -> Result<Word, AllocError>
-        ensures { result ≡ Ok self.now }
-    {
-        Ok(*self)
-    }
-}
-
 impl Copied for Word {
-    fn copied(&self, alloc: Global) -> Result<Word, AllocError> {
-        self.copy(alloc)
+    fn copy(&self) -> Result<Word, AllocError> {
+        self.clone()
     }
 }
 

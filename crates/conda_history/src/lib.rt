@@ -9,6 +9,3 @@ mod stamp;
 
 pub use revision::{Block, History, HistoryErr};
 pub use stamp::Stamp;
-
-#[cfg(test)]
-mod tests;

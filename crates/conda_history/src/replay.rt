@@ -5,7 +5,7 @@ ghost use Rattle.std.specs.List.Sorted.{IsStrictlySortedBy};
 ghost use Rattle.conda_history.specs.Sets.{IsIn, IsLeft, set_of, with_all, without_all};
 
 use crate::revision::{Block, History, HistoryErr};
-use conda_base::Rows;
+use conda_base::{Copied, Rows};
 use conda_path::Dist;
 use std::alloc::{AllocError, Global};
 use std::collections::BTreeSet;
@@ -24,7 +24,7 @@ fn put_in(alloc: Global, set: &mut BTreeSet<Dist>, dists: &[Dist]) -> Result<(),
     ensures { OnOk result (set.new.keys ≡ with_all set.old.keys dists.now) }
 {
     for dist in dists {
-        set.insert(dist.copy(alloc)?)?;
+        set.insert(dist.copy()?)?;
     }
     Ok(())
 }

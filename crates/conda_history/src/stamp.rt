@@ -1,4 +1,4 @@
-ghost use Rattle.std.specs.Prelude.{◌≡◌, ◌↔◌, ◌≤◌, ◌<◌, IfOk, IsTrue, nat_eq, pos};
+ghost use Rattle.std.specs.Prelude.{◌≡◌, ◌↔◌, ◌≤◌, ◌<◌, IsTrue, nat_eq, pos};
 ghost use Rattle.std.specs.Cmp.Lexicographic.{pointwise};
 ghost use Rattle.jiff_core.specs.Calendar.{IsDate};
 ghost use Rattle.jiff_core.specs.Time.{IsTime};
@@ -6,10 +6,10 @@ ghost use Rattle.conda_history.specs.Stamps as stamps;
 
 use conda_base::Copied;
 use jiff::civil::DateTime;
-use std::alloc::{AllocError, Global};
+use std::alloc::AllocError;
 
 /// A moment in UTC, to the second: a date of the years 0 to 9999 on the calendar of ISO 8601 and a time of day.
-#[derive(Clone, Copy, Debug, PartialEq, Eq, PartialOrd, Ord)]
+#[derive(Clone, Copy, Debug, PartialEq, Eq, PartialOrd, Ord, Hash)]
 pub struct Stamp {
     pub year: u16,
     pub month: u8,
@@ -19,18 +19,9 @@ pub struct Stamp {
     pub second: u8,
 }
 
-impl Stamp {
-    /// An equal stamp.
-    pub fn copy(&self, _alloc: Global) -> Result<Stamp, AllocError>
-        ensures { IfOk result (λ made. made ≡ self.now) }
-    {
-        Ok(*self)
-    }
-}
-
 impl Copied for Stamp {
-    fn copied(&self, _alloc: Global) -> Result<Stamp, AllocError> {
-        Ok(*self)
+    fn copy(&self) -> Result<Stamp, AllocError> {
+        self.clone()
     }
 }
 

@@ -6,8 +6,6 @@ ghost use Rattle.conda_path.specs.Dists.{dist_build, dist_name, dist_version, Is
 use crate::error::DistErr;
 use conda_base::{Copied, Text};
 use std::alloc::{AllocError, Global};
-use std::cmp::Ordering;
-use std::hash::{Hash, Hasher};
 use std::marker::Model;
 
 /// The most bytes of a dist.
@@ -20,7 +18,7 @@ const DIST_LIMIT: usize = 255;
 /// `dist.py`; the rest is this project's own rule.
 ///
 /// Contracts see it as the list of its bytes, by which dists are compared and hashed.
-#[derive(Debug, Drop)]
+#[derive(Clone, Debug, PartialEq, Eq, PartialOrd, Ord, Hash, Drop)]
 pub struct Dist {
     text: Text,
 }
@@ -33,6 +31,8 @@ impl Model for Dist {
     ghost use Rattle.conda_path.specs.Dists.{is_dist};
 
     ghost view = { λ d. d.text };
+
+    ghost inverse = { λ t. record { text = t } };
 
     ghost invariant = { λ d. is_dist d.text ≡ true };
 }
@@ -178,84 +178,10 @@ impl Dist {
         let (_, build) = cut(self.text.as_str());
         build
     }
-
-    /// An equal dist.
-    pub fn copy(&self, alloc: Global) -> Result<Dist, AllocError>
-        ensures { IfOk result (λ made. made ≡ self.now) }
-    {
-        let text = self.text.copy(alloc)?;
-        Ok(Dist { text })
-    }
 }
 
 impl Copied for Dist {
-    fn copied(&self, alloc: Global) -> Result<Dist, AllocError> {
-        self.copy(alloc)
-    }
-}
-
-impl PartialEq for Dist {
-    ghost use Rattle.std.specs.Prelude.{nat_eq};
-    ghost use Rattle.std.specs.Cmp.{partial_equiv_from_equiv};
-    ghost use Rattle.std.specs.Cmp.Lexicographic.{nat_list_eq_equiv, pointwise};
-
-    ghost eq = { pointwise nat_eq };
-
-    ghost laws = { partial_equiv_from_equiv nat_list_eq_equiv };
-
-    fn eq(&self, other: &Dist) -> bool {
-        self.text == other.text
-    }
-}
-
-impl Eq for Dist {
-    ghost use Rattle.std.specs.Cmp.Lexicographic.{nat_list_eq_equiv};
-
-    ghost laws = { nat_list_eq_equiv };
-}
-
-impl Hash for Dist {
-    ghost use Rattle.std.specs.Hash as fed;
-    ghost use Rattle.std.specs.Cmp.Rules.{hashing};
-    ghost use Rattle.std.proofs.Common.{rules};
-
-    ghost hash_input = { fed.str };
-
-    ghost respects_eq = { Prim.search (hashing, rules) };
-
-    fn hash<H: Hasher>(&self, state: &mut H) {
-        self.text.hash(state)
-    }
-}
-
-impl PartialOrd for Dist {
-    ghost use Rattle.std.specs.Prelude.{Some};
-    ghost use Rattle.std.specs.Ordering.{nat_cmp};
-    ghost use Rattle.std.specs.Cmp.Lexicographic.{slice_cmp, texts_po};
-
-    ghost partial_cmp = { λ a b. Some (slice_cmp nat_cmp a b) };
-
-    ghost laws = { texts_po };
-
-    fn partial_cmp(&self, other: &Dist) -> Option<Ordering> {
-        Some(self.cmp(other))
-    }
-}
-
-impl Ord for Dist {
-    ghost use Rattle.std.specs.Prelude.{refl};
-    ghost use Rattle.std.specs.Ordering.{nat_cmp};
-    ghost use Rattle.std.specs.Cmp.Lexicographic.{nat_list_cmp_total, slice_cmp, texts_ties};
-
-    ghost cmp = { slice_cmp nat_cmp };
-
-    ghost total = { nat_list_cmp_total };
-
-    ghost matches_partial_cmp = { λ a b. refl };
-
-    ghost matches_eq = { texts_ties };
-
-    fn cmp(&self, other: &Dist) -> Ordering {
-        self.text.cmp(&other.text)
+    fn copy(&self) -> Result<Dist, AllocError> {
+        self.clone()
     }
 }

@@ -17,6 +17,3 @@ pub use prefix::Prefix;
 pub use rel_path::RelPath;
 pub use slot::{SlotKey, StorePath, one_key};
 pub use values::{Digest, Good, Kind, Node};
-
-#[cfg(test)]
-mod tests;

@@ -6,8 +6,6 @@ use crate::error::PathErr;
 use crate::scan::{Bad, first_offence};
 use conda_base::{Copied, Text};
 use std::alloc::{AllocError, Global};
-use std::cmp::Ordering;
-use std::hash::{Hash, Hasher};
 use std::marker::Model;
 
 /// The most bytes of a prefix.
@@ -17,7 +15,7 @@ const PREFIX_LIMIT: usize = 512;
 /// This project's own rule.
 ///
 /// Contracts see it as the list of its bytes, by which prefixes are compared and hashed.
-#[derive(Debug, Drop)]
+#[derive(Clone, Debug, PartialEq, Eq, PartialOrd, Ord, Hash, Drop)]
 pub struct Prefix {
     text: Text,
 }
@@ -30,6 +28,8 @@ impl Model for Prefix {
     ghost use Rattle.conda_path.specs.Paths.{prefix_fault};
 
     ghost view = { λ p. p.text };
+
+    ghost inverse = { λ t. record { text = t } };
 
     ghost invariant = { λ p. prefix_fault p.text ≡ None };
 }
@@ -106,84 +106,10 @@ impl Prefix {
     {
         text_inside(self.as_str().as_bytes(), other.as_str().as_bytes())
     }
-
-    /// An equal prefix.
-    pub fn copy(&self, alloc: Global) -> Result<Prefix, AllocError>
-        ensures { IfOk result (λ made. made ≡ self.now) }
-    {
-        let text = self.text.copy(alloc)?;
-        Ok(Prefix { text })
-    }
 }
 
 impl Copied for Prefix {
-    fn copied(&self, alloc: Global) -> Result<Prefix, AllocError> {
-        self.copy(alloc)
-    }
-}
-
-impl PartialEq for Prefix {
-    ghost use Rattle.std.specs.Prelude.{nat_eq};
-    ghost use Rattle.std.specs.Cmp.{partial_equiv_from_equiv};
-    ghost use Rattle.std.specs.Cmp.Lexicographic.{nat_list_eq_equiv, pointwise};
-
-    ghost eq = { pointwise nat_eq };
-
-    ghost laws = { partial_equiv_from_equiv nat_list_eq_equiv };
-
-    fn eq(&self, other: &Prefix) -> bool {
-        self.text == other.text
-    }
-}
-
-impl Eq for Prefix {
-    ghost use Rattle.std.specs.Cmp.Lexicographic.{nat_list_eq_equiv};
-
-    ghost laws = { nat_list_eq_equiv };
-}
-
-impl Hash for Prefix {
-    ghost use Rattle.std.specs.Hash as fed;
-    ghost use Rattle.std.specs.Cmp.Rules.{hashing};
-    ghost use Rattle.std.proofs.Common.{rules};
-
-    ghost hash_input = { fed.str };
-
-    ghost respects_eq = { Prim.search (hashing, rules) };
-
-    fn hash<H: Hasher>(&self, state: &mut H) {
-        self.text.hash(state)
-    }
-}
-
-impl PartialOrd for Prefix {
-    ghost use Rattle.std.specs.Prelude.{Some};
-    ghost use Rattle.std.specs.Ordering.{nat_cmp};
-    ghost use Rattle.std.specs.Cmp.Lexicographic.{slice_cmp, texts_po};
-
-    ghost partial_cmp = { λ a b. Some (slice_cmp nat_cmp a b) };
-
-    ghost laws = { texts_po };
-
-    fn partial_cmp(&self, other: &Prefix) -> Option<Ordering> {
-        Some(self.cmp(other))
-    }
-}
-
-impl Ord for Prefix {
-    ghost use Rattle.std.specs.Prelude.{refl};
-    ghost use Rattle.std.specs.Ordering.{nat_cmp};
-    ghost use Rattle.std.specs.Cmp.Lexicographic.{nat_list_cmp_total, slice_cmp, texts_ties};
-
-    ghost cmp = { slice_cmp nat_cmp };
-
-    ghost total = { nat_list_cmp_total };
-
-    ghost matches_partial_cmp = { λ a b. refl };
-
-    ghost matches_eq = { texts_ties };
-
-    fn cmp(&self, other: &Prefix) -> Ordering {
-        self.text.cmp(&other.text)
+    fn copy(&self) -> Result<Prefix, AllocError> {
+        self.clone()
     }
 }

@@ -1,10 +1,13 @@
 -- Where a text is refused, the lines before are a log's text, and with the line that is told they are none's.
-use Rattle.std.proofs.Common.{◌≡◌, ℕ, suc, ◌+◌, ◌-◌, ◌≤◌, ◌==◌, true, false, cond, List, [], ◌∷◌, Option, Some, None, Result, Ok, Err, ◌⊎◌, inl, inr, refl, sym, ap, ◌∙◌, arith}
+use Rattle.std.proofs.Common.{◌≡◌, ℕ, suc, ◌+◌, ◌-◌, ◌≤◌, ◌==◌, true, false, cond, List, [], ◌∷◌, Option, Some, None, IfErr, IfSome, Result, Ok, Err, ◌⊎◌, inl, inr, refl, sym, ap, ◌∙◌, arith}
 use Rattle.std.proofs.lemmas.Bool.{cases_Bool, cases_eq, cond-true, cond-false}
+use Rattle.conda_base.specs.Reads.{Gives}
+use Rattle.conda_refute.specs.Faults.{refute_fault_of}
 use Rattle.conda_refute.specs.LogText.{log_text, is_log, first_lines, IsFirstBadLine}
-use Rattle.conda_refute.specs.Reader.{byte_read, at_end, after_byte, run, start}
+use Rattle.conda_refute.specs.Reader.{byte_read, at_end, after_byte, run, start, log_read}
 use Rattle.conda_refute.specs.declared.log.Log.{Log}
 use Rattle.conda_refute.specs.declared.log.RefuteErr.{RefuteErr}
+use Rattle.conda_refute.specs.declared.log.RefuteErr.TheVariants.{Bad, BadLog, Memory}
 use Rattle.conda_refute.specs.declared.reader.Place.{Place}
 use Rattle.conda_refute.specs.declared.reader.Place.TheVariants.{Line, Tag, Number, Minus, Digits}
 use Rattle.conda_refute.specs.declared.reader.Reading.{Reading}
@@ -14,10 +17,10 @@ use Rattle.conda_refute.proofs.ReadBack.{read_back}
 -- of a text that is refused at a line: the lines with it are refused there too, and those before are read
 pub record Refused (bs : List ℕ) (r : Reading) (k : ℕ) : Type 0 where
   pub low : r.line ≤ k
-  pub here : run (first_lines bs (suc (k - r.line))) r ≡ Err k
+  pub here : run (first_lines bs (suc (k - r.line))) r ≡ Err (BadLog k)
   pub before : (k ≡ r.line) ⊎ ((log : Log) × (run (first_lines bs (k - r.line)) r ≡ Ok log))
 
-end_refused : (place : Place) (r : Reading) (k : ℕ) → ◌≡◌ {A = Result Log ℕ} (at_end place r) (Err k) → k ≡ r.line
+end_refused : (place : Place) (r : Reading) (k : ℕ) → ◌≡◌ {A = Result Log RefuteErr} (at_end place r) (Err (BadLog k)) → k ≡ r.line
 end_refused Line r k h = cc
 end_refused (Tag part) r k h = cc
 end_refused (Number part) r k h = cc
@@ -86,7 +89,7 @@ other_refused r s b bs k e a f w =
       before = other_before r s b bs k e f line low w.before (cases_eq k r.line);
     }
 
-refused_after : (r : Reading) (b : ℕ) (bs : List ℕ) (k : ℕ) (o : Option Reading) → byte_read r b ≡ o → AddsTo r b o → ((s : Reading) → IsGood s → run bs s ≡ Err k → Refused bs s k) → after_byte (run bs) r.line o ≡ Err k → Refused (b ∷ bs) r k
+refused_after : (r : Reading) (b : ℕ) (bs : List ℕ) (k : ℕ) (o : Option Reading) → byte_read r b ≡ o → AddsTo r b o → ((s : Reading) → IsGood s → run bs s ≡ Err (BadLog k) → Refused bs s k) → after_byte (run bs) r.line o ≡ Err (BadLog k) → Refused (b ∷ bs) r k
 refused_after r b bs k None e a later h =
     let is : k ≡ r.line = cc in
     record {
@@ -100,7 +103,7 @@ refused_after r b bs k (Some s) e a later h =
       | inr f ↦ other_refused r s b bs k e a f (later s a.good h)
     ]
 
-refused : (bs : List ℕ) (r : Reading) (k : ℕ) → IsGood r → run bs r ≡ Err k → Refused bs r k
+refused : (bs : List ℕ) (r : Reading) (k : ℕ) → IsGood r → run bs r ≡ Err (BadLog k) → Refused bs r k
 refused [] r k g h = let is : k ≡ r.line = end_refused r.place r k h in record { low = omega arith; here = h; before = inl is }
 refused (b ∷ bs) r k g h = refused_after r b bs k (byte_read r b) refl (adds r b g) (λ s j e. refused bs s k j e) h
 
@@ -110,11 +113,11 @@ lines_before text k (inl is) =
     (record { inputs = []; steps = [] }, refl, sym (ap (first_lines text) none ∙ no_lines text))
 lines_before text k (inr found) = let read = read_shown (first_lines text (k - 1)) found.0 found.1 in (found.0, read.numbers, read.shows)
 
-not_read : (text : List ℕ) (k : ℕ) (log : Log) → run (first_lines text k) start ≡ Err k → is_log log ≡ true → log_text log ≡ first_lines text k → ⊥
+not_read : (text : List ℕ) (k : ℕ) (log : Log) → run (first_lines text k) start ≡ Err (BadLog k) → is_log log ≡ true → log_text log ≡ first_lines text k → ⊥
 not_read text k log h is same =
-    let e : ◌≡◌ {A = Result Log ℕ} (Ok log) (Err k) = sym (read_back log is) ∙ ap (λ x. run x start) same ∙ h in cc
+    let e : ◌≡◌ {A = Result Log RefuteErr} (Ok log) (Err (BadLog k)) = sym (read_back log is) ∙ ap (λ x. run x start) same ∙ h in cc
 
-pub first_bad_line : (text : List ℕ) (k : ℕ) → run text start ≡ Err k → IsFirstBadLine text k
+pub first_bad_line : (text : List ℕ) (k : ℕ) → run text start ≡ Err (BadLog k) → IsFirstBadLine text k
 first_bad_line text k h =
     let w = refused text start k start_good h in
     let low : 1 ≤ k = w.low in
@@ -124,7 +127,28 @@ first_bad_line text k h =
       bad = λ log is same. not_read text k log (ap (λ j. run (first_lines text j) start) (sym whole) ∙ w.here) is same;
     }
 
+end_not_bad : (place : Place) (r : Reading) (step : ℕ) → ◌≡◌ {A = Result Log RefuteErr} (at_end place r) (Err (Bad step)) → ⊥
+end_not_bad Line r step h = cc
+end_not_bad (Tag part) r step h = cc
+end_not_bad (Number part) r step h = cc
+end_not_bad (Minus part) r step h = cc
+end_not_bad (Digits part negative n) r step h = cc
+
+not_bad_after : (bs : List ℕ) (line step : ℕ) (o : Option Reading) → ((s : Reading) → run bs s ≡ Err (Bad step) → ⊥) → after_byte (run bs) line o ≡ Err (Bad step) → ⊥
+not_bad_after bs line step None f h = cc
+not_bad_after bs line step (Some s) f h = f s h
+
+not_bad : (bs : List ℕ) (r : Reading) (step : ℕ) → run bs r ≡ Err (Bad step) → ⊥
+not_bad [] r step h = end_not_bad r.place r step h
+not_bad (b ∷ bs) r step h = not_bad_after bs r.line step (byte_read r b) (λ s e. not_bad bs s step e) h
+
 -- the cause of a refusal, in the words of the text
-pub bad_cause : (text : List ℕ) (e : RefuteErr) → (e ≡ RefuteErr.Memory) ⊎ ((line : ℕ) × (e ≡ RefuteErr.BadLog line) × (run text start ≡ Err line)) → (e ≡ RefuteErr.Memory) ⊎ ((line : ℕ) × (e ≡ RefuteErr.BadLog line) × IsFirstBadLine text line)
-bad_cause text e (inl h) = inl h
-bad_cause text e (inr (line, is, h)) = inr (line, is, first_bad_line text line h)
+bad_cause : (text : List ℕ) (e : RefuteErr) → IfSome (refute_fault_of e) (λ fault. log_read text ≡ Err fault) → (e ≡ RefuteErr.Memory) ⊎ ((line : ℕ) × (e ≡ RefuteErr.BadLog line) × IsFirstBadLine text line)
+bad_cause text (Bad step) h = absurd (not_bad text start step h)
+bad_cause text (BadLog line) h = inr (line, refl, first_bad_line text line h)
+bad_cause text Memory h = inl refl
+
+pub answer_bad : (text : List ℕ) (r : Result Log RefuteErr) → Gives refute_fault_of r (log_read text) →
+    IfErr r (λ e. (e ≡ RefuteErr.Memory) ⊎ ((line : ℕ) × (e ≡ RefuteErr.BadLog line) × IsFirstBadLine text line))
+answer_bad text (Ok log) h = tt
+answer_bad text (Err e) h = bad_cause text e h

@@ -1,13 +1,18 @@
 -- The text of a log is read as that log.
-use Rattle.std.proofs.Common.{◌≡◌, ℕ, suc, ◌+◌, ◌-◌, ◌*◌, ◌/◌, ◌%◌, ◌^◌, ◌<◌, ◌≤◌, ◌==◌, nat_lt, nat_le, ℤ, pos, negsuc, Bool, true, false, cond, List, [], ◌∷◌, ◌++◌, flat_map, decimal, Result, Ok, refl, sym, ap, ◌∙◌, arith, append_assoc, append-nil}
+use Rattle.std.proofs.Common.{◌≡◌, ℕ, suc, ◌+◌, ◌-◌, ◌*◌, ◌/◌, ◌%◌, ◌^◌, ◌<◌, ◌≤◌, ◌==◌, nat_lt, nat_le, ℤ, pos, negsuc, Bool, true, false, cond, List, [], ◌∷◌, ◌++◌, flat_map, decimal, Result, Ok, Err, MatchResult, IfSome, refl, sym, ap, ◌∙◌, arith, append_assoc, append-nil}
 use Rattle.std.specs.List.{list_all}
 use Rattle.std.specs.Fmt.{signed_decimal}
 use Rattle.std.proofs.lemmas.Bool.{and_parts, and_from, cond-true, cond-false, le-leb, ne_eqb, lt-ltb, ltb-true}
 use Rattle.std.proofs.lemmas.Fmt.{decimal_by_steps}
+use Rattle.conda_base.specs.Reads.{Gives}
+use Rattle.conda_base.specs.Texts.{is_empty}
+use Rattle.conda_refute.specs.Faults.{refute_fault_of}
 use Rattle.conda_refute.specs.LogText.{literals_text, hints_text, input_line, step_line, log_text, is_literal, is_hint, is_step, is_log}
-use Rattle.conda_refute.specs.Reader.{is_digit, signed, minus, after_zero, number_ends, more_digits, in_digits, move_of, moved, is_none_yet, after_byte, run, start}
+use Rattle.conda_refute.specs.Reader.{is_digit, signed, minus, after_zero, number_ends, more_digits, in_digits, move_of, moved, after_byte, run, start, log_read}
 use Rattle.conda_refute.specs.declared.log.Step.{Step}
 use Rattle.conda_refute.specs.declared.log.Log.{Log}
+use Rattle.conda_refute.specs.declared.log.RefuteErr.{RefuteErr}
+use Rattle.conda_refute.specs.declared.log.RefuteErr.TheVariants.{BadLog, Memory}
 use Rattle.conda_refute.specs.declared.reader.Part.{Part}
 use Rattle.conda_refute.specs.declared.reader.Part.TheVariants.{Input, Literals, Hints}
 use Rattle.conda_refute.specs.declared.reader.Place.{Place}
@@ -16,7 +21,7 @@ use Rattle.conda_refute.specs.declared.reader.Move.{Move}
 use Rattle.conda_refute.specs.declared.reader.Move.TheVariants.{Bad, To, Literal, Hint}
 use Rattle.conda_refute.specs.declared.reader.Reading.{Reading}
 
-by_move : (r : Reading) (b : ℕ) (bs : List ℕ) (m : Move) → move_of r.place (is_none_yet r.steps) b ≡ m → run (b ∷ bs) r ≡ after_byte (run bs) r.line (moved r m)
+by_move : (r : Reading) (b : ℕ) (bs : List ℕ) (m : Move) → move_of r.place (is_empty r.steps) b ≡ m → run (b ∷ bs) r ≡ after_byte (run bs) r.line (moved r m)
 by_move r b bs m e = ap (λ n. after_byte (run bs) r.line (moved r n)) e
 
 digit_is : (d : ℕ) → d < 10 → is_digit (48 + d) ≡ true
@@ -31,7 +36,7 @@ Opens part negative opens = (none : Bool) (d : ℕ) → d < 10 → move_of opens
 
 one_digit : (part : Part) (negative : Bool) (opens : Place) (r : Reading) → Opens part negative opens → (n : ℕ) → n < 10 → Reads part negative opens r n ((48 + n) ∷ [])
 unfolding Reads Opens
-one_digit part negative opens r o n h _ rest = by_move (record r { place = opens }) (48 + n) rest (To (Digits part negative n)) (o (is_none_yet r.steps) n h)
+one_digit part negative opens r o n h _ rest = by_move (record r { place = opens }) (48 + n) rest (To (Digits part negative n)) (o (is_empty r.steps) n h)
 
 next_digit : (part : Part) (negative none : Bool) (n d : ℕ) → (n ≡ 0 → ⊥) → d < 10 → n * 10 + d < 2 ^ 64 → in_digits part negative n none (48 + d) ≡ To (Digits part negative (n * 10 + d))
 next_digit part negative none n d h k fits =
@@ -51,7 +56,7 @@ more_digit part negative opens r n ds h before small rest =
     ap (λ bs. run bs (record r { place = opens })) (append_assoc ds ((48 + n % 10) ∷ []) rest)
     ∙ before short ((48 + n % 10) ∷ rest)
     ∙ by_move (record r { place = Digits part negative (n / 10) }) (48 + n % 10) rest (To (Digits part negative (n / 10 * 10 + n % 10)))
-    (next_digit part negative (is_none_yet r.steps) (n / 10) (n % 10) nonzero digit fits)
+    (next_digit part negative (is_empty r.steps) (n / 10) (n % 10) nonzero digit fits)
     ∙ ap (λ m. run rest (record r { place = Digits part negative m })) whole
 
 read_digits : (part : Part) (negative : Bool) (opens : Place) (r : Reading) → ((none : Bool) (d : ℕ) → d < 10 → move_of opens none (48 + d) ≡ To (Digits part negative d)) → (n : ℕ) → n < 2 ^ 64 → (rest : List ℕ) →
@@ -98,19 +103,19 @@ read_literal part holds r ls (pos n) is rest =
     let nonzero : n ≡ 0 → ⊥ = λ (z : n ≡ 0). omega arith in
     let short : n < 2 ^ 64 = omega arith in
     read_digits part false (Number part) (record r { literals = ls }) (at_number_opens part) n short (32 ∷ rest)
-    ∙ by_move (record r { place = Digits part false n; literals = ls }) 32 rest (Literal part (pos n)) (ends_literal part holds false (is_none_yet r.steps) n nonzero is)
+    ∙ by_move (record r { place = Digits part false n; literals = ls }) 32 rest (Literal part (pos n)) (ends_literal part holds false (is_empty r.steps) n nonzero is)
 read_literal part holds r ls (negsuc n) is rest =
     let high : n < 2 ^ 31 = ltb-true n (2 ^ 31) is in
     let nonzero : suc n ≡ 0 → ⊥ = λ (z : suc n ≡ 0). omega arith in
     let short : suc n < 2 ^ 64 = omega arith in
     by_move (record r { place = Number part; literals = ls }) 45 (decimal (suc n) ++ 32 ∷ rest) (To (Minus part)) holds.signs
     ∙ read_digits part true (Minus part) (record r { literals = ls }) (at_minus_opens part) (suc n) short (32 ∷ rest)
-    ∙ by_move (record r { place = Digits part true (suc n); literals = ls }) 32 rest (Literal part (negsuc n)) (ends_literal part holds true (is_none_yet r.steps) (suc n) nonzero is)
+    ∙ by_move (record r { place = Digits part true (suc n); literals = ls }) 32 rest (Literal part (negsuc n)) (ends_literal part holds true (is_empty r.steps) (suc n) nonzero is)
 
 read_literals : (part : Part) → HoldsLiterals part → (r : Reading) (acc ls : List ℤ) → list_all is_literal ls ≡ true → (rest : List ℕ) →
     run (literals_text ls ++ rest) (record r { place = Number part; literals = acc }) ≡ run rest (record r { place = Digits part false 0; literals = acc ++ ls })
 read_literals part holds r acc [] is rest =
-    by_move (record r { place = Number part; literals = acc }) 48 rest (To (Digits part false 0)) (at_number_opens part (is_none_yet r.steps) 0 (omega arith))
+    by_move (record r { place = Number part; literals = acc }) 48 rest (To (Digits part false 0)) (at_number_opens part (is_empty r.steps) 0 (omega arith))
     ∙ ap (λ ls. run rest (record r { place = Digits part false 0; literals = ls })) (sym (append-nil acc))
 read_literals part holds r acc (l ∷ ls) is rest =
     let parts = and_parts (is_literal l) (list_all is_literal ls) is in
@@ -127,12 +132,12 @@ read_hint r hs n is rest =
     let high : n < 2 ^ 64 = ltb-true n (2 ^ 64) parts.1 in
     let nonzero : n ≡ 0 → ⊥ = λ (z : n ≡ 0). omega arith in
     read_digits Hints false (Number Hints) (record r { hints = hs }) (at_number_opens Hints) n high (32 ∷ rest)
-    ∙ by_move (record r { place = Digits Hints false n; hints = hs }) 32 rest (Hint n) (space_ends Hints false (is_none_yet r.steps) n nonzero ∙ cond-true (is_hint n) (Hint n) Bad is)
+    ∙ by_move (record r { place = Digits Hints false n; hints = hs }) 32 rest (Hint n) (space_ends Hints false (is_empty r.steps) n nonzero ∙ cond-true (is_hint n) (Hint n) Bad is)
 
 read_hints : (r : Reading) (acc hs : List ℕ) → list_all is_hint hs ≡ true → (rest : List ℕ) →
     run (hints_text hs ++ rest) (record r { place = Number Hints; hints = acc }) ≡ run rest (record r { place = Digits Hints false 0; hints = acc ++ hs })
 read_hints r acc [] is rest =
-    by_move (record r { place = Number Hints; hints = acc }) 48 rest (To (Digits Hints false 0)) (at_number_opens Hints (is_none_yet r.steps) 0 (omega arith))
+    by_move (record r { place = Number Hints; hints = acc }) 48 rest (To (Digits Hints false 0)) (at_number_opens Hints (is_empty r.steps) 0 (omega arith))
     ∙ ap (λ ls. run rest (record r { place = Digits Hints false 0; hints = ls })) (sym (append-nil acc))
 read_hints r acc (h ∷ hs) is rest =
     let parts = and_parts (is_hint h) (list_all is_hint hs) is in
@@ -199,7 +204,18 @@ read_back log is =
 -- the log that was read is the only one with this text
 pub only_one : (text : List ℕ) (log other : Log) → run text start ≡ Ok log → is_log other ≡ true → log_text other ≡ text → other ≡ log
 only_one text log other h is same =
-    let e : ◌≡◌ {A = Result Log ℕ} (Ok other) (Ok log) = sym (read_back other is) ∙ ap (λ bs. run bs start) same ∙ h in cc
+    let e : ◌≡◌ {A = Result Log RefuteErr} (Ok other) (Ok log) = sym (read_back other is) ∙ ap (λ bs. run bs start) same ∙ h in cc
+
+only_memory : (e : RefuteErr) (text : List ℕ) (log : Log) → IfSome (refute_fault_of e) (λ fault. log_read text ≡ Err fault) → run text start ≡ Ok log → e ≡ RefuteErr.Memory
+only_memory (RefuteErr.Bad step) text log h read = cc
+only_memory (BadLog line) text log h read = cc
+only_memory Memory text log h read = refl
+
+-- what a reader answers, for a text that is a log's
+pub only_answer : (text : List ℕ) (r : Result Log RefuteErr) (log : Log) → Gives refute_fault_of r (log_read text) → is_log log ≡ true → log_text log ≡ text →
+    MatchResult r (λ found. found ≡ log) (λ e. e ≡ RefuteErr.Memory)
+only_answer text (Ok found) log h is same = sym (only_one text found log h is same)
+only_answer text (Err e) log h is same = only_memory e text log h (ap (λ bs. run bs start) (sym same) ∙ read_back log is)
 
 -- two logs with one text are one
 pub same_text : (log other : Log) (text : List ℕ) → is_log log ≡ true → text ≡ log_text log → is_log other ≡ true → log_text other ≡ text → other ≡ log

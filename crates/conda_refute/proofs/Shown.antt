@@ -1,15 +1,19 @@
 -- What was read shows the text that it was read from.
-use Rattle.std.proofs.Common.{◌≡◌, ℕ, zero, suc, ◌+◌, ◌-◌, ◌*◌, ◌/◌, ◌%◌, ◌^◌, ◌<◌, ◌≤◌, ◌==◌, nat_lt, nat_le, ℤ, Bool, true, false, cond, ◌&&◌, List, [], ◌∷◌, ◌++◌, flat_map, decimal, Option, Some, None, Result, Ok, refl, sym, ap, subst, ◌∙◌, arith, append_assoc, append-nil, eqb-true, true≢false}
+use Rattle.std.proofs.Common.{◌≡◌, ℕ, zero, suc, ◌+◌, ◌-◌, ◌*◌, ◌/◌, ◌%◌, ◌^◌, ◌<◌, ◌≤◌, ◌==◌, nat_lt, nat_le, ℤ, Bool, true, false, cond, ◌&&◌, List, [], ◌∷◌, ◌++◌, flat_map, decimal, Option, Some, None, Result, Ok, Err, IfOk, refl, sym, ap, subst, ◌∙◌, arith, append_assoc, append-nil, eqb-true, true≢false}
 use Rattle.std.specs.List.{list_all}
 use Rattle.std.specs.Fmt.{signed_decimal}
 use Rattle.std.proofs.lemmas.Bool.{and_parts, and_from, cond_both, cond-true, cond-false, ne_eqb, leb-true, ltb-true, eqb-false}
 use Rattle.std.proofs.lemmas.Fmt.{decimal_step, decimal_digit}
 use Rattle.std.proofs.lemmas.Grind.{flat_map-append}
 use Rattle.std.proofs.lemmas.List.Folds.{list_all-append}
+use Rattle.conda_base.specs.Reads.{Gives}
+use Rattle.conda_base.specs.Texts.{is_empty}
+use Rattle.conda_refute.specs.Faults.{refute_fault_of}
 use Rattle.conda_refute.specs.LogText.{literals_text, hints_text, input_line, step_line, log_text, is_literal, is_hint, is_step, is_log}
-use Rattle.conda_refute.specs.Reader.{is_digit, signed, minus, at_line, at_number, after_zero, number_ends, more_digits, in_digits, moved, is_none_yet, byte_read, at_end, after_byte, run, start}
+use Rattle.conda_refute.specs.Reader.{is_digit, signed, minus, at_line, at_number, after_zero, number_ends, more_digits, in_digits, moved, byte_read, at_end, after_byte, run, start, log_read}
 use Rattle.conda_refute.specs.declared.log.Step.{Step}
 use Rattle.conda_refute.specs.declared.log.Log.{Log}
+use Rattle.conda_refute.specs.declared.log.RefuteErr.{RefuteErr}
 use Rattle.conda_refute.specs.declared.reader.Part.{Part}
 use Rattle.conda_refute.specs.declared.reader.Part.TheVariants.{Input, Literals, Hints}
 use Rattle.conda_refute.specs.declared.reader.Place.{Place}
@@ -285,7 +289,7 @@ step_shown inputs steps ls hs =
 new_line : (b : ℕ) (m n : ℕ) → (b == 10) ≡ true → m ≡ cond (b == 10) m n
 new_line b m n h = sym (cond-true (b == 10) m n h)
 
-none_is : (steps : List Step) → is_none_yet steps ≡ true → steps ≡ []
+none_is : (steps : List Step) → is_empty steps ≡ true → steps ≡ []
 none_is [] h = refl
 none_is (s ∷ ss) h = absurd (true≢false (sym h))
 
@@ -306,7 +310,7 @@ zero_place front so_far n b c z e =
     ∙ ap (λ x. (front ++ (so_far ++ x)) ++ b ∷ []) (decimal_digit 0 (omega arith))
     ∙ ap (λ x. (front ++ (so_far ++ 48 ∷ [])) ++ x ∷ []) e
 
-input_ends : (n : ℕ) (r : Reading) (b : ℕ) → n ≡ 0 → (b == 10) ≡ true → is_none_yet r.steps ≡ true → IsGood (record r { place = Digits Input false n }) →
+input_ends : (n : ℕ) (r : Reading) (b : ℕ) → n ≡ 0 → (b == 10) ≡ true → is_empty r.steps ≡ true → IsGood (record r { place = Digits Input false n }) →
     AddsBy (record r { place = Digits Input false n }) b InputEnds
 input_ends n r b z newline none g = record {
   text =
@@ -346,13 +350,13 @@ literals_end n r b z e ne g =
     ∙ ap (λ x. (100 ∷ 32 ∷ (spaced r.literals ++ 48 ∷ [])) ++ x ∷ []) e))
 
 adds_zero : (part : Part) (negative : Bool) (n : ℕ) (r : Reading) (b : ℕ) → n ≡ 0 → IsGood (record r { place = Digits part negative n }) →
-    AddsBy (record r { place = Digits part negative n }) b (after_zero part negative (is_none_yet r.steps) b)
+    AddsBy (record r { place = Digits part negative n }) b (after_zero part negative (is_empty r.steps) b)
 adds_zero Input true n r b z g = tt
 adds_zero Literals true n r b z g = tt
 adds_zero Hints true n r b z g = tt
 adds_zero Input false n r b z g =
-    cond_both (b == 10 && is_none_yet r.steps) InputEnds Bad (AddsBy (record r { place = Digits Input false n }) b)
-    (λ h. let parts = and_parts (b == 10) (is_none_yet r.steps) h in input_ends n r b z parts.0 parts.1 g)
+    cond_both (b == 10 && is_empty r.steps) InputEnds Bad (AddsBy (record r { place = Digits Input false n }) b)
+    (λ h. let parts = and_parts (b == 10) (is_empty r.steps) h in input_ends n r b z parts.0 parts.1 g)
     (λ _. tt)
 adds_zero Literals false n r b z g =
     cond_both (b == 32) LiteralsEnd Bad (AddsBy (record r { place = Digits Literals false n }) b)
@@ -364,9 +368,9 @@ adds_zero Hints false n r b z g =
     (λ _. tt)
 
 adds_digits : (part : Part) (negative : Bool) (n : ℕ) (r : Reading) (b : ℕ) → IsGood (record r { place = Digits part negative n }) →
-    AddsBy (record r { place = Digits part negative n }) b (in_digits part negative n (is_none_yet r.steps) b)
+    AddsBy (record r { place = Digits part negative n }) b (in_digits part negative n (is_empty r.steps) b)
 adds_digits part negative n r b g =
-    cond_both (n == 0) (after_zero part negative (is_none_yet r.steps) b) (cond (is_digit b) (more_digits part negative (n * 10 + (b - 48))) (cond (b == 32) (number_ends part negative n) Bad))
+    cond_both (n == 0) (after_zero part negative (is_empty r.steps) b) (cond (is_digit b) (more_digits part negative (n * 10 + (b - 48))) (cond (b == 32) (number_ends part negative n) Bad))
     (AddsBy (record r { place = Digits part negative n }) b)
     (λ h. adds_zero part negative n r b (zero_at n h) g)
     (λ h. cond_both (is_digit b) (more_digits part negative (n * 10 + (b - 48))) (cond (b == 32) (number_ends part negative n) Bad) (AddsBy (record r { place = Digits part negative n }) b)
@@ -390,7 +394,7 @@ pub record Read (text : List ℕ) (log : Log) : Type 0 where
   pub shows : log_text log ≡ text
   pub numbers : is_log log ≡ true
 
-end_shown : (place : Place) (r : Reading) (log : Log) → IsGood r → ◌≡◌ {A = Result Log ℕ} (at_end place r) (Ok log) → Read (lines_text r.inputs r.steps ++ line_text place r.literals r.hints ++ []) log
+end_shown : (place : Place) (r : Reading) (log : Log) → IsGood r → ◌≡◌ {A = Result Log RefuteErr} (at_end place r) (Ok log) → Read (lines_text r.inputs r.steps ++ line_text place r.literals r.hints ++ []) log
 end_shown Line r log g h =
     let e : ◌≡◌ {A = Log} (record { inputs = r.inputs; steps = r.steps }) log = cc in
     subst (Read (lines_text r.inputs r.steps ++ [] ++ [])) e
@@ -417,3 +421,8 @@ start_good = record { inputs = refl; steps = refl; literals = refl; hints = refl
 
 pub read_shown : (text : List ℕ) (log : Log) → run text start ≡ Ok log → Read text log
 read_shown text log h = run_shown text start log start_good h
+
+-- so does what a reader answers
+pub answer_shown : (text : List ℕ) (r : Result Log RefuteErr) → Gives refute_fault_of r (log_read text) → IfOk r (λ log. Read text log)
+answer_shown text (Ok log) h = read_shown text log h
+answer_shown text (Err e) h = tt

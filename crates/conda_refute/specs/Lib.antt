@@ -1,3 +1,4 @@
+pub mod Faults
 pub mod Left
 pub mod Literals
 pub mod LogText

@@ -1,15 +1,15 @@
 ghost use Rattle.std.specs.Prelude.{◌≡◌, ◌≢◌, pos, [], ◌∷◌, ◌++◌, IfOk, IfSome, OnErr, OnOk, not, is_some};
 ghost use Rattle.conda_refute.specs.Literals.{has};
 
-use conda_base::{Copied, copied_all};
+use conda_base::{Copied, Rows};
 use std::alloc::{AllocError, Global};
 use std::marker::Model;
 
 /// A clause: a list of literals, of which one has to be true. The literal `n` is variable n, and `-n` its opposite; none is 0.
 /// Contracts see the list.
-#[derive(Debug, Drop)]
+#[derive(Clone, Debug, PartialEq, Eq, Drop)]
 pub struct Clause {
-    items: Vec<i32>,
+    items: Rows<i32>,
 }
 
 impl Model for Clause {
@@ -18,9 +18,11 @@ impl Model for Clause {
 
     ghost Value = { List ℤ };
 
-    ghost view = { λ c. c.items.items };
+    ghost view = { λ c. c.items };
 
-    ghost invariant = { λ c. has c.items.items (pos 0) ≡ false };
+    ghost inverse = { λ t. record { items = t } };
+
+    ghost invariant = { λ c. has c.items (pos 0) ≡ false };
 }
 
 impl Clause {
@@ -32,7 +34,9 @@ impl Clause {
         if holds_zero(items.as_slice()) {
             return None;
         }
-        Some(Clause { items })
+        Some(Clause {
+            items: Rows::from_vec(items),
+        })
     }
 
     /// The empty clause, which takes no memory.
@@ -40,7 +44,7 @@ impl Clause {
         ensures { result ≡ [] }
     {
         Clause {
-            items: Vec::new(alloc),
+            items: Rows::new(alloc),
         }
     }
 
@@ -65,21 +69,13 @@ impl Clause {
         ensures { result.items ≡ self }
     {
         let Clause { items } = self;
-        items
-    }
-
-    /// An equal clause.
-    pub fn copy(&self, alloc: Global) -> Result<Clause, AllocError>
-        ensures { IfOk result (λ c. c ≡ self.now) }
-    {
-        let items = copied_all(alloc, self.items.as_slice())?;
-        Ok(Clause { items })
+        items.into_vec()
     }
 }
 
 impl Copied for Clause {
-    fn copied(&self, alloc: Global) -> Result<Clause, AllocError> {
-        self.copy(alloc)
+    fn copy(&self) -> Result<Clause, AllocError> {
+        self.clone()
     }
 }
 

@@ -11,6 +11,3 @@ mod text;
 pub use checking::{check, no_assignment_is_left};
 pub use clause::Clause;
 pub use log::{Log, RefuteErr, Step};
-
-#[cfg(test)]
-mod tests;

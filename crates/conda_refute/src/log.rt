@@ -1,8 +1,6 @@
-ghost use Rattle.std.specs.Prelude.{◌≡◌, IfOk};
-
 use crate::clause::Clause;
 use conda_base::{Copied, Rows};
-use std::alloc::{AllocError, Global};
+use std::alloc::AllocError;
 
 /// Why a log is refused.
 #[derive(Clone, Copy, Debug, PartialEq, Eq)]
@@ -17,49 +15,27 @@ pub enum RefuteErr {
 
 /// A step: a clause, and the numbers of the clauses from which it follows, in the order in which they are used.
 /// Clauses count from 1, through the inputs and then the steps.
-#[derive(Debug, Drop)]
+#[derive(Clone, Debug, PartialEq, Eq, Drop)]
 pub struct Step {
     pub clause: Clause,
     pub hints: Rows<u64>,
 }
 
-impl Step {
-    /// An equal step.
-    pub fn copy(&self, alloc: Global) -> Result<Step, AllocError>
-        ensures { IfOk result (λ s. s ≡ self.now) }
-    {
-        let clause = self.clause.copy(alloc)?;
-        let hints = self.hints.copy(alloc)?;
-        Ok(Step { clause, hints })
-    }
-}
-
 impl Copied for Step {
-    fn copied(&self, alloc: Global) -> Result<Step, AllocError> {
-        self.copy(alloc)
+    fn copy(&self) -> Result<Step, AllocError> {
+        self.clone()
     }
 }
 
 /// Input clauses, and steps that are to refute them.
-#[derive(Debug, Drop)]
+#[derive(Clone, Debug, PartialEq, Eq, Drop)]
 pub struct Log {
     pub inputs: Rows<Clause>,
     pub steps: Rows<Step>,
 }
 
-impl Log {
-    /// An equal log.
-    pub fn copy(&self, alloc: Global) -> Result<Log, AllocError>
-        ensures { IfOk result (λ l. l ≡ self.now) }
-    {
-        let inputs = self.inputs.copy(alloc)?;
-        let steps = self.steps.copy(alloc)?;
-        Ok(Log { inputs, steps })
-    }
-}
-
 impl Copied for Log {
-    fn copied(&self, alloc: Global) -> Result<Log, AllocError> {
-        self.copy(alloc)
+    fn copy(&self) -> Result<Log, AllocError> {
+        self.clone()
     }
 }

@@ -1,6 +1,9 @@
 ghost use Rattle.std.specs.Prelude.{◌≡◌, ◌≢◌, ◌⊎◌, ℕ, ◌+◌, ◌<◌, ◌≤◌, ◌^◌, ◌*◌, pos, [], Some, None, Ok, Err, IfErr, IfOk, OnOk, true, false, cond};
+ghost use Rattle.conda_base.specs.Reads.{Gives};
+ghost use Rattle.conda_base.specs.Signs.{digit_zero};
+ghost use Rattle.conda_refute.specs.Faults.{refute_fault_of};
 ghost use Rattle.conda_refute.specs.LogText.{is_literal};
-ghost use Rattle.conda_refute.specs.Reader.{after_zero, at_line, at_number, byte_read, in_digits, is_digit, minus, more_digits, move_of, moved, number_ends, run, signed, start};
+ghost use Rattle.conda_refute.specs.Reader.{after_zero, at_line, at_number, byte_read, in_digits, is_digit, minus, more_digits, move_of, moved, number_ends, run, log_read, signed, start};
 
 use crate::clause::Clause;
 use crate::log::{Log, RefuteErr, Step};
@@ -62,8 +65,7 @@ pub struct Reading {
 
 /// The log that the text is, or its first bad line.
 pub fn read(alloc: Global, text: &[u8]) -> Result<Log, RefuteErr>
-    ensures ok { IfOk result (λ log. run text.now start ≡ Ok log) }
-    ensures err { IfErr result (λ e. (e ≡ RefuteErr.Memory) ⊎ ((line : ℕ) × (e ≡ RefuteErr.BadLog line) × (run text.now start ≡ Err line))) }
+    ensures { Gives refute_fault_of result (log_read text.now) }
 {
     let mut reading = begun(alloc);
     for byte in text {
@@ -90,8 +92,7 @@ fn begun(alloc: Global) -> Reading
 }
 
 fn ended(reading: Reading) -> Result<Log, RefuteErr>
-    ensures ok { IfOk result (λ log. run [] reading ≡ Ok log) }
-    ensures err { IfErr result (λ e. (e ≡ RefuteErr.BadLog reading.line) × (run [] reading ≡ Err reading.line)) }
+    ensures { Gives refute_fault_of result (run [] reading) }
 {
     let Reading {
         place,
@@ -211,7 +212,7 @@ fn move_of(place: Place, inputs_only: bool, byte: u8) -> Move
 
 fn is_digit(byte: u8) -> bool
     ensures value { result ≡ is_digit byte }
-    ensures digit { result ≡ true → (48 ≤ byte) × (byte ≤ 57) }
+    ensures digit { result ≡ true → (digit_zero ≤ byte) × (byte ≤ 57) }
 {
     byte >= b'0' && byte <= b'9'
 }

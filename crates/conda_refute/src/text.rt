@@ -1,4 +1,7 @@
-ghost use Rattle.std.specs.Prelude.{◌≡◌, ◌⊎◌, ℕ, ◌∷◌, ◌++◌, IfErr, IfOk, OnOk, flat_map, string_bytes, true};
+ghost use Rattle.std.specs.Prelude.{◌≡◌, ◌⊎◌, ℕ, ◌∷◌, ◌++◌, IfErr, IfOk, MatchResult, OnOk, flat_map, string_bytes, true};
+ghost use Rattle.conda_base.specs.Reads.{Gives};
+ghost use Rattle.conda_refute.specs.Faults.{refute_fault_of};
+ghost use Rattle.conda_refute.specs.Reader.{log_read};
 ghost use Rattle.conda_refute.specs.LogText.{IsFirstBadLine, hints_text, input_line, is_log, literals_text, log_text, step_line};
 
 use crate::clause::Clause;
@@ -8,12 +11,13 @@ use std::alloc::{AllocError, Global};
 
 impl Log {
     /// The log that the text is: a line `i L.. 0` for each input, and then a line `d L.. 0 H.. 0` for each step, with its literals and its hints.
-    /// `BadLog` has the first line of another form.
+    /// `BadLog` has the first line of another form. Every log whose hints aren't 0 is read from its text.
     pub fn read(alloc: Global, text: &str) -> Result<Log, RefuteErr>
         ensures ok { IfOk result (λ log. log_text log ≡ text.now) }
         ensures numbers { IfOk result (λ log. is_log log ≡ true) }
-        ensures only { IfOk result (λ log. (other : Log) → is_log other ≡ true → log_text other ≡ text.now → other ≡ log) }
+        ensures only { (log : Log) → is_log log ≡ true → log_text log ≡ text.now → MatchResult result (λ found. found ≡ log) (λ e. e ≡ RefuteErr.Memory) }
         ensures bad { IfErr result (λ e. (e ≡ RefuteErr.Memory) ⊎ ((line : ℕ) × (e ≡ RefuteErr.BadLog line) × IsFirstBadLine text.now line)) }
+        ensures exact { Gives refute_fault_of result (log_read text.now) }
     {
         read(alloc, text.as_bytes())
     }

@@ -1,12 +1,8 @@
-use Rattle.std.proofs.Common.{arith}
-use Rattle.conda_core.proofs.RunLemmas.{goes_on}
+use Rattle.std.proofs.Common.{sym, subst}
+use Rattle.conda_core.specs.Rules.{Rules}
+use Rattle.conda_core.proofs.RuleLemmas.{run_keeps}
 use Rattle.conda_core.proofs.machine.Core.run.Goals as goal
 
-pub loop-event-preserved : goal.loop-event-preserved
-loop-event-preserved c =
-    let told = c.in-Ok.ensures in
-    record {
-      count = omega arith;
-      run = goes_on c.args.events.now c.loop-event.event-index c.args.self.now c.loop-event.self c.apply.new.self c.event-item.result (omega arith) c.event-item.is c.loop-event.invariant.run told.was_enabled told.ok;
-      rules = λ r. told.rules (c.loop-event.invariant.rules r);
-    }
+pub returns-clause-rules : goal.returns-clause-rules
+returns-clause-rules c = λ r.
+    subst Rules (sym c.in_ok-count.ensures.after) (run_keeps c.args.events.now c.in_ok-core.core (subst Rules (sym c.in_ok-core.ensures) r))
