@@ -87,7 +87,7 @@ one_more : (v : ℕ → Bool) (clauses : List (List ℤ)) (c : List ℤ) → lis
 one_more v clauses c every t =
     list_all-append (clause_true v) clauses (c ∷ []) ∙ and_from _ _ every (and_from (clause_true v c) true t refl)
 
-steps_true : (v : ℕ → Bool) (clauses : List (List ℤ)) (steps : List Step) → list_all (clause_true v) clauses ≡ true → all_follow clauses steps ≡ true → list_all (λ s. clause_true v s.clause) steps ≡ true
+pub steps_true : (v : ℕ → Bool) (clauses : List (List ℤ)) (steps : List Step) → list_all (clause_true v) clauses ≡ true → all_follow clauses steps ≡ true → list_all (λ s. clause_true v s.clause) steps ≡ true
 steps_true v clauses [] every h = refl
 steps_true v clauses (s ∷ ss) every h =
     let parts = and_parts (follows clauses s) (all_follow (clauses ++ s.clause ∷ []) ss) h in

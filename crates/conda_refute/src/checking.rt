@@ -2,7 +2,7 @@ ghost use Rattle.std.specs.Prelude.{◌≡◌, ℕ, ℤ, ◌⊎◌, List, [], �
 ghost use Rattle.std.specs.List.{list_all, list_any};
 ghost use Rattle.conda_refute.specs.Literals.{clause_true, has};
 ghost use Rattle.conda_refute.specs.Left.{left_in};
-ghost use Rattle.conda_refute.specs.Refutation.{bad_step, clauses_of, ends_empty, follows, hints_end, named, not_false, refuted};
+ghost use Rattle.conda_refute.specs.Refutation.{all_follow, bad_step, clauses_of, ends_empty, follows, hints_end, named, not_false, refuted};
 
 use crate::clause::Clause;
 use crate::falses::{Falses, opposite};
@@ -55,8 +55,15 @@ fn last_is_empty(steps: &[Step]) -> bool
     }
 }
 
+/// Where each step of a log follows, its clause is true wherever the inputs are.
+pub fn every_step_holds(log: &Log)
+    ensures { all_follow log.now.inputs log.now.steps ≡ true → (v : ℕ → Bool) → list_all (clause_true v) log.now.inputs ≡ true → list_all (λ s. clause_true v s.clause) log.now.steps ≡ true }
+{
+    let _ = log;
+}
+
 /// Whether the step follows from the inputs and the steps before it.
-fn step_follows(
+pub fn step_follows(
     alloc: Global,
     inputs: &[Clause],
     before: &[Step],

@@ -8,6 +8,6 @@ mod log;
 mod reader;
 mod text;
 
-pub use checking::{check, no_assignment_is_left};
+pub use checking::{check, every_step_holds, no_assignment_is_left, step_follows};
 pub use clause::Clause;
 pub use log::{Log, RefuteErr, Step};

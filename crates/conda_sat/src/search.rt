@@ -1,12 +1,14 @@
 use crate::analysis::{Analysis, Learned};
 use crate::assignment::{Assignment, Value, opposite_of, short, variable_of};
+use crate::denial::holds_opposites;
+use crate::load::repeats;
 use crate::queue::Queue;
 use crate::watches::{Watch, Watches};
 use std::alloc::{AllocError, Global};
 
 /// What the search came to.
 #[derive(Clone, Copy, Debug, PartialEq, Eq)]
-pub enum Verdict {
+pub enum Outcome {
     /// Every variable has a side.
     Model,
     /// The last learned clause has only opposites of assumed literals.
@@ -47,6 +49,7 @@ pub struct Search {
     queue: Queue,
     analysis: Analysis,
     learned: Vec<Learned>,
+    is_over: bool,
 }
 
 impl Search {
@@ -59,7 +62,18 @@ impl Search {
             queue: Queue::new(alloc, vars)?,
             analysis: Analysis::new(alloc, vars)?,
             learned: Vec::new(alloc),
+            is_over: false,
         })
+    }
+
+    /// Whether each variable is true, the first one's side first.
+    pub fn sides(&self) -> Result<Vec<bool>, AllocError> {
+        let mut sides = Vec::with_capacity(self.alloc, self.vars as usize)?;
+        for number in 0..self.vars {
+            let literal = i32::try_from(number).unwrap_or(i32::MAX).saturating_add(1);
+            sides.push(self.assignment.value(literal) == Value::True)?;
+        }
+        Ok(sides)
     }
 
     pub fn value(&self, literal: i32) -> Value {
@@ -115,7 +129,54 @@ impl Search {
             conflict,
             None,
         )?;
+        self.is_over = true;
         self.take_up(learned)
+    }
+
+    /// Whether the empty clause was learned.
+    pub fn is_over(&self) -> bool {
+        self.is_over
+    }
+
+    /// At level 0, takes up what the clause with this number says by itself: that it is false, that its one literal is true, or, where a
+    /// literal stands in it twice, the clause with each literal once.
+    pub fn settle(&mut self, number: u32) -> Result<(), AllocError> {
+        let clause = self.watches.clause(number);
+        if holds_opposites(clause) {
+            return Ok(());
+        }
+        if repeats(clause) {
+            let mut once = Vec::with_capacity(self.alloc, clause.len())?;
+            for literal in clause {
+                if !once.contains(literal) {
+                    once.push(*literal)?;
+                }
+            }
+            let hints = vec![in self.alloc; u64::from(number)]?;
+            self.take_up(Learned {
+                clause: once,
+                hints,
+                level: 0,
+            })?;
+            let again = self.last_number();
+            return self.settle_short(again);
+        }
+        self.settle_short(number)
+    }
+
+    fn settle_short(&mut self, number: u32) -> Result<(), AllocError> {
+        match self.watches.clause(number) {
+            [] => self.end(number),
+            [literal] => {
+                let literal = *literal;
+                match self.assignment.value(literal) {
+                    Value::True => Ok(()),
+                    Value::Open => self.fix(literal, number),
+                    Value::False => self.end(number),
+                }
+            }
+            _ => Ok(()),
+        }
     }
 
     /// Goes back to a level.
@@ -143,7 +204,10 @@ impl Search {
         assumed: &[i32],
         order: &[i32],
         allowed: u64,
-    ) -> Result<Verdict, AllocError> {
+    ) -> Result<Outcome, AllocError> {
+        if self.is_over {
+            return Ok(Outcome::Denied);
+        }
         self.back_to(0);
         let mut conflicts = 0_u64;
         let mut next = 0_usize;
@@ -152,7 +216,7 @@ impl Search {
                 Found::Conflict(conflict) => {
                     if self.assignment.level() == 0 {
                         self.end(conflict)?;
-                        return Ok(Verdict::Denied);
+                        return Ok(Outcome::Denied);
                     }
                     self.learn(conflict)?;
                     conflicts = conflicts.saturating_add(1);
@@ -160,7 +224,7 @@ impl Search {
                 }
                 Found::Nothing => {
                     if conflicts >= allowed {
-                        return Ok(Verdict::Restart);
+                        return Ok(Outcome::Restart);
                     }
                     if let Some(verdict) = self.decide(assumed, order, &mut next)? {
                         return Ok(verdict);
@@ -168,7 +232,7 @@ impl Search {
                 }
             }
         }
-        Ok(Verdict::Restart)
+        Ok(Outcome::Restart)
     }
 
     /// Learns from a conflict above level 0, and goes back.
@@ -199,7 +263,7 @@ impl Search {
         assumed: &[i32],
         order: &[i32],
         next: &mut usize,
-    ) -> Result<Option<Verdict>, AllocError> {
+    ) -> Result<Option<Outcome>, AllocError> {
         if let Some(literal) = assumed.get(self.assignment.level() as usize) {
             return self.assume(*literal);
         }
@@ -217,11 +281,11 @@ impl Search {
                 self.assignment.assign(literal, None)?;
                 Ok(None)
             }
-            None => Ok(Some(Verdict::Model)),
+            None => Ok(Some(Outcome::Model)),
         }
     }
 
-    fn assume(&mut self, literal: i32) -> Result<Option<Verdict>, AllocError> {
+    fn assume(&mut self, literal: i32) -> Result<Option<Outcome>, AllocError> {
         match self.assignment.value(literal) {
             Value::True => {
                 self.assignment.begin_level()?;
@@ -235,13 +299,13 @@ impl Search {
             Value::False => {
                 let known = self.assignment.known(literal);
                 if known.level > 0 && known.reason.is_none() {
-                    return Ok(Some(Verdict::Opposites));
+                    return Ok(Some(Outcome::Opposites));
                 }
                 let learned = self
                     .analysis
                     .deny(self.alloc, &self.assignment, &self.watches, literal)?;
                 self.take_up(learned)?;
-                Ok(Some(Verdict::Denied))
+                Ok(Some(Outcome::Denied))
             }
         }
     }
