@@ -3,6 +3,7 @@ ghost use Rattle.std.specs.List.{list_all};
 ghost use Rattle.conda_refute.specs.Literals.{clause_true};
 ghost use Rattle.conda_sat.specs.Answers.{AreDecided, AreSidesOf, EndsWith, Extends, IsFalseAt, Satisfies, is_within, opposites, side_of};
 
+use crate::denial::has_literal;
 use crate::ledger::Ledger;
 use crate::model::clause_is_true;
 use conda_base::Rows;
@@ -29,7 +30,7 @@ fn sides_of(alloc: Global, vars: u32, decided: &[i32]) -> Result<Vec<bool>, Allo
 {
     let mut sides = Vec::with_capacity(alloc, vars as usize)?;
     for number in 0..vars {
-        sides.push(decided.contains(&(number as i32 + 1)))?;
+        sides.push(has_literal(decided, number as i32 + 1))?;
     }
     Ok(sides)
 }
@@ -98,7 +99,7 @@ pub fn by_cases(
         return at_the_end(alloc, ledger, vars, decided.as_slice());
     }
     let literal = next as i32;
-    if decided.contains(&literal) || decided.contains(&-literal) {
+    if has_literal(decided.as_slice(), literal) || has_literal(decided.as_slice(), -literal) {
         return by_cases(alloc, ledger, vars, decided, next + 1);
     }
     decided.push(literal)?;
@@ -126,5 +127,7 @@ fn last_number(ledger: &Ledger) -> u64
     ensures { result ≡ length ledger.now.inputs + length ledger.now.steps }
 {
     let log = ledger.log();
-    log.inputs.len() as u64 + log.steps.len() as u64
+    let inputs = log.inputs.as_slice();
+    let steps = log.steps.as_slice();
+    inputs.len() as u64 + steps.len() as u64
 }

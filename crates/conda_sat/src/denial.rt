@@ -4,6 +4,18 @@ ghost use Rattle.conda_refute.specs.Literals.{has};
 ghost use Rattle.conda_refute.specs.Refutation.{has_opposites};
 ghost use Rattle.conda_sat.specs.Answers.{denies};
 
+/// Whether a literal is one of these.
+pub fn has_literal(literals: &[i32], literal: i32) -> bool
+    ensures { result ≡ has literals.now literal }
+{
+    for other in literals {
+        if *other == literal {
+            return true;
+        }
+    }
+    false
+}
+
 /// Whether the opposite of a literal is one of these.
 fn has_opposite(literals: &[i32], literal: i32) -> bool
     ensures { result ≡ has literals.now (neg_ℤ literal) }

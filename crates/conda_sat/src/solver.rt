@@ -1,4 +1,4 @@
-ghost use Rattle.std.specs.Prelude.{◌≡◌, [], All, Contains, IfErr, IfOk, IfSome, Some, true};
+ghost use Rattle.std.specs.Prelude.{◌≡◌, ◌≢◌, ℤ, List, [], IfOk, IfSome, true};
 ghost use Rattle.std.specs.List.{list_all};
 ghost use Rattle.conda_refute.specs.Refutation.{ends_empty, has_opposites, refuted};
 ghost use Rattle.conda_sat.specs.Answers.{IsDenied, IsVerdict, is_within};
@@ -44,7 +44,8 @@ fn model_of(
     clauses: &[Clause],
     assumed: &[i32],
 ) -> Result<Option<Verdict>, AllocError>
-    ensures { IfOk result (λ found. IfSome found (IsVerdict vars clauses.now assumed.now)) }
+    ensures right { IfOk result (λ found. IfSome found (IsVerdict vars clauses.now assumed.now)) }
+    ensures model { result ≢ Ok (Some Verdict.Denied) }
 {
     let sides = search.sides()?;
     if sides.len() == vars as usize
@@ -90,7 +91,7 @@ fn searched(
     }
     let mut allowed = 100_u64;
     let mut first = order;
-    for _ in 0..u64::MAX {
+    for _turn in 0..u64::MAX {
         let outcome = search.run(assumed, first, allowed)?;
         if !take_learned(alloc, ledger, search)? {
             return Ok(Outcome::Restart);

@@ -1,0 +1,5 @@
+use Rattle.conda_sat.proofs.SidesLemmas.{opposites_deny}
+use Rattle.conda_sat.proofs.solver.seen.Goals as goal
+
+pub returns-in-Opposites-clause-right : goal.returns-in-Opposites-clause-right
+returns-in-Opposites-clause-right c = ?
