@@ -1,2 +1,4 @@
+mod CasesLemmas
+mod InputLemmas
 mod LedgerLemmas
 mod SidesLemmas

@@ -34,7 +34,7 @@ opposites_false v assumed (x ∷ clause) every d h =
       | inr e ↦ opposites_false v assumed clause every parts.1 e
     ]
 
-get_true : {X : Type 0} (p : X → Bool) (xs : List X) (i : ℕ) (x : X) → list_all p xs ≡ true → slice_get xs i ≡ Some x → p x ≡ true
+pub get_true : {X : Type 0} (p : X → Bool) (xs : List X) (i : ℕ) (x : X) → list_all p xs ≡ true → slice_get xs i ≡ Some x → p x ≡ true
 get_true p [] i x every e = cc
 get_true p (y ∷ ys) zero x every e = let here : p y ≡ true = (and_parts (p y) (list_all p ys) every).0 in let same : y ≡ x = cc in ap p (sym same) ∙ here
 get_true p (y ∷ ys) (suc i) x every e = get_true p ys i x (and_parts (p y) (list_all p ys) every).1 e

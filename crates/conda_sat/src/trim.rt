@@ -70,9 +70,10 @@ fn kept_inputs(alloc: Global, flags: &[bool], inputs: &[Clause]) -> Result<Rows<
 {
     let mut made = Rows::new(alloc);
     for (at, input) in inputs.iter().enumerate() {
-        if flag(flags, at) {
-            made.push(input.copy()?)?;
+        if !flag(flags, at) {
+            continue;
         }
+        made.push(input.copy()?)?;
     }
     Ok(made)
 }
