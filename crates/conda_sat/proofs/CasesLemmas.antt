@@ -1,8 +1,9 @@
 -- Both sides of each variable: what is decided, and the steps that deny it.
-use Rattle.std.proofs.Common.{◌≡◌, ℕ, ◌+◌, ◌-◌, ◌≤◌, ◌<◌, ◌==◌, ℤ, pos, negsuc, neg_ℤ, zero, suc, Bool, true, false, not, ◌||◌, ◌⊎◌, inl, inr, List, [], ◌∷◌, ◌++◌, length, map, slice_get, Option, Some, None, unwrap_or, refl, sym, ap, ◌∙◌, arith, true≢false, int_eq}
+use Rattle.std.proofs.Common.{◌≡◌, ℕ, ◌+◌, ◌-◌, ◌≤◌, ◌<◌, ◌==◌, ℤ, pos, negsuc, neg_ℤ, nat_le, zero, suc, Bool, true, false, not, ◌||◌, ◌⊎◌, inl, inr, List, [], ◌∷◌, ◌++◌, length, map, slice_get, Option, Some, None, unwrap_or, refl, sym, ap, ◌∙◌, arith, true≢false, int_eq}
 use Rattle.std.proofs.Math.IntN.{neg_ℤ-neg_ℤ}
+use Rattle.std.specs.Option.{IfNone, is_some}
 use Rattle.std.specs.List.{filter, list_all, list_any}
-use Rattle.std.proofs.lemmas.Bool.{and_parts, and_from, or_cases, or_parts, or_left, or_right, false_from_ne_true, not_from_false, not_from_true, not-false, ne_eqb, leb-true}
+use Rattle.std.proofs.lemmas.Bool.{and_parts, and_from, or_cases, or_parts, or_left, or_right, false_from_ne_true, not_from_false, not_from_true, not-false, ne_eqb, leb-true, le-leb}
 use Rattle.std.proofs.lemmas.Bool.Decides.{Decides-int_eq}
 use Rattle.std.proofs.lemmas.List.{length-append}
 use Rattle.std.proofs.lemmas.List.Folds.{list_all-append, list_any-append}
@@ -10,7 +11,7 @@ use Rattle.std.proofs.lemmas.Option.{slice_get_within}
 use Rattle.conda_refute.specs.Literals.{clause_true, has, literal_true}
 use Rattle.conda_refute.specs.Refutation.{by_clause, by_left, clauses_of, follows, has_opposites, hints_end, named, not_false}
 use Rattle.conda_refute.specs.declared.log.Step.{Step}
-use Rattle.conda_sat.specs.Answers.{AreDecided, AreSidesOf, EndsWith, Extends, IsFalseAt, Satisfies, is_within, opposites, side_of, variable_of}
+use Rattle.conda_sat.specs.Answers.{AreDecided, AreSidesOf, EndsWith, Extends, IsFalseAt, Satisfies, is_within, literal_at, opposites, side_of, variable_of}
 use Rattle.conda_sat.proofs.SidesLemmas.{all_at, get_true}
 
 -- ---- lists of literals
@@ -129,6 +130,16 @@ decided-push vars next xs l d w free own = record {
   below = λ n low high. below-push xs l next d.below own n low high (less_or_same n next high);
 }
 
+within_at : (vars n : ℕ) (side : Bool) → 1 ≤ n → n ≤ vars → is_within vars (literal_at n side) ≡ true
+within_at vars zero side low high = absurd (omega arith)
+within_at vars (suc n) true low high = and_from (nat_le 1 (suc n)) (nat_le (suc n) vars) (le-leb 1 (suc n) low) (le-leb (suc n) vars high)
+within_at vars (suc n) false low high = and_from (nat_le 1 (n + 1)) (nat_le (n + 1) vars) (le-leb 1 (n + 1) (omega arith)) (le-leb (n + 1) vars (omega arith))
+
+pub decided-side : (vars next : ℕ) (xs : List ℤ) (side : Bool) → 1 ≤ next → next ≤ vars → AreDecided vars next xs → has xs (literal_at next (not side)) ≡ false → AreDecided vars (next + 1) (xs ++ literal_at next side ∷ [])
+decided-side vars next xs true low high d free = decided-push vars next xs (literal_at next true) d (within_at vars next true low high) free (inl refl)
+decided-side vars next xs false low high d free =
+    decided-push vars next xs (literal_at next false) d (within_at vars next false low high) (ap (has xs) (neg_ℤ-neg_ℤ (pos next)) ∙ free) (inr refl)
+
 -- ---- places in lists
 
 pub slice_get-front : {X : Type 0} (xs ys : List X) (i : ℕ) (x : X) → slice_get xs i ≡ Some x → slice_get (xs ++ ys) i ≡ Some x
@@ -157,6 +168,13 @@ pub ends_with_last : (steps : List Step) (step : Step) → EndsWith (steps ++ st
 ends_with_last steps step =
     let place : length (steps ++ step ∷ []) - 1 ≡ length steps + 0 = omega (arith, length-append steps (step ∷ [])) in
     (step, ap (slice_get (steps ++ step ∷ [])) place ∙ slice_get-behind steps (step ∷ []) 0 step refl, refl)
+
+pub ended_with : (before after : List Step) (step : Step) (clause : List ℤ) → after ≡ before ++ step ∷ [] → step.clause ≡ clause → EndsWith after clause
+ended_with before after step clause more same = let ends = ends_with_last before step in rw more (ends.0, ends.1, ends.2 ∙ same)
+
+pub none_left_of : {X P : Type 0} (found : Option X) → IfNone found P → is_some found ≡ false → P
+none_left_of None h e = h
+none_left_of (Some x) h e = absurd (true≢false e)
 
 -- the number of the last step names its clause, also when more steps follow
 pub last_named : (inputs : List (List ℤ)) (steps after : List Step) (clause : List ℤ) → EndsWith steps clause → Extends steps after → named (clauses_of inputs after) (length inputs + length steps) ≡ Some clause
@@ -216,9 +234,9 @@ both_follow clauses decided l left right apart free free_opposite first second =
 
 decided_true : (vars : ℕ) (decided : List ℤ) (sides : List Bool) → AreDecided vars (vars + 1) decided → AreSidesOf vars decided sides → (l : ℤ) → has decided l ≡ true → is_within vars l ≡ true → literal_true (side_of sides) l ≡ true
 decided_true vars decided sides d s (pos zero) h w = absurd (true≢false (sym w))
-decided_true vars decided sides d s (pos (suc n)) h w = s.each (suc n) (omega arith) (leb-true (suc n) vars w) ∙ h
+decided_true vars decided sides d s (pos (suc n)) h w = s.each (suc n) (omega arith) (leb-true (suc n) vars (and_parts (nat_le 1 (suc n)) (nat_le (suc n) vars) w).1) ∙ h
 decided_true vars decided sides d s (negsuc n) h w =
-    let side : side_of sides (suc n) ≡ has decided (pos (suc n)) = s.each (suc n) (omega arith) (omega (arith, leb-true (n + 1) vars (and_parts _ _ w).1)) in
+    let side : side_of sides (suc n) ≡ has decided (pos (suc n)) = s.each (suc n) (omega arith) (omega (arith, leb-true (n + 1) vars (and_parts (nat_le 1 (n + 1)) (nat_le (n + 1) vars) w).1)) in
     ap not (side ∙ apart_from decided d.apart (negsuc n) h)
 
 pub decided_satisfied : (vars : ℕ) (decided : List ℤ) (sides : List Bool) → AreDecided vars (vars + 1) decided → AreSidesOf vars decided sides → list_all (literal_true (side_of sides)) decided ≡ true
@@ -228,7 +246,7 @@ decided_satisfied vars decided sides d s =
 false_denied : (vars : ℕ) (decided : List ℤ) (sides : List Bool) → AreDecided vars (vars + 1) decided → AreSidesOf vars decided sides → (l : ℤ) → is_within vars l ≡ true → literal_true (side_of sides) l ≡ false → has (opposites decided) l ≡ true
 false_denied vars decided sides d s (pos zero) w e = absurd (true≢false (sym w))
 false_denied vars decided sides d s (pos (suc n)) w e =
-    let small : suc n ≤ vars = leb-true (suc n) vars w in
+    let small : suc n ≤ vars = leb-true (suc n) vars (and_parts (nat_le 1 (suc n)) (nat_le (suc n) vars) w).1 in
     let side : side_of sides (suc n) ≡ has decided (pos (suc n)) = s.each (suc n) (omega arith) small in
     has-opposites decided (pos (suc n)) ∙
     elim (or_cases (has decided (pos (suc n))) (has decided (neg_ℤ (pos (suc n)))) (d.below (suc n) (omega arith) (omega arith))) [
@@ -236,7 +254,7 @@ false_denied vars decided sides d s (pos (suc n)) w e =
       | inr k ↦ k
     ]
 false_denied vars decided sides d s (negsuc n) w e =
-    let side : side_of sides (suc n) ≡ has decided (pos (suc n)) = s.each (suc n) (omega arith) (omega (arith, leb-true (n + 1) vars (and_parts _ _ w).1)) in
+    let side : side_of sides (suc n) ≡ has decided (pos (suc n)) = s.each (suc n) (omega arith) (omega (arith, leb-true (n + 1) vars (and_parts (nat_le 1 (n + 1)) (nat_le (n + 1) vars) w).1)) in
     has-opposites decided (negsuc n) ∙ sym side ∙ not-false (side_of sides (suc n)) e
 
 -- the literals of a clause that is false are opposites of what is decided
@@ -250,6 +268,7 @@ clause_denied vars decided sides inputs at clause d s within e f l h =
 
 side-push : (sides : List Bool) (b : Bool) (n : ℕ) → 1 ≤ n → n ≤ length sides → side_of (sides ++ b ∷ []) n ≡ side_of sides n
 side-push [] b n low high = absurd (omega arith)
+side-push (x ∷ sides) b zero low high = absurd (omega arith)
 side-push (x ∷ sides) b (suc zero) low high = refl
 side-push (x ∷ sides) b (suc (suc n)) low high =
     let back : suc (suc n) - 1 ≡ suc n = omega arith in

@@ -1,11 +1,13 @@
 -- What is asked of a set of clauses, and what an answer has to meet.
-use Rattle.std.specs.Prelude.{◌≡◌, ℕ, ◌+◌, ◌-◌, ◌≤◌, ◌<◌, nat_le, ℤ, pos, negsuc, neg_ℤ, Bool, true, false, ◌&&◌, ◌||◌, List, ◌++◌, length, map, slice_get, Some, unwrap_or}
+use Rattle.std.specs.Prelude.{◌≡◌, ℕ, ◌+◌, ◌-◌, ◌≤◌, ◌<◌, nat_le, ℤ, pos, negsuc, neg_ℤ, Bool, true, false, ◌&&◌, ◌||◌, List, [], ◌∷◌, ◌++◌, length, map, slice_get, All, Contains, Some, unwrap_or}
 use Rattle.std.specs.List.{list_all}
 use Rattle.conda_refute.specs.Literals.{clause_true, has, literal_true}
-use Rattle.conda_refute.specs.Refutation.{has_opposites}
+use Rattle.conda_refute.specs.Refutation.{has_opposites, named, refuted}
 use Rattle.conda_refute.specs.declared.log.Step.{Step}
 use Rattle.conda_sat.specs.declared.verdict.Verdict.{Verdict}
 use Rattle.conda_sat.specs.declared.verdict.Verdict.TheVariants.{Model, Denied}
+use Rattle.conda_sat.specs.declared.verdict.Answer.{Answer}
+use Rattle.conda_sat.specs.declared.verdict.Answer.TheVariants as Answer
 
 -- clauses over some variables, and the steps that were learned from them
 pub record Question : Type 0 where
@@ -45,7 +47,17 @@ abbrev pub IsVerdict : ℕ → List (List ℤ) → List ℤ → Verdict → Type
 IsVerdict vars clauses assumed (Model sides) = (length sides ≡ vars) × Satisfies sides clauses assumed
 IsVerdict vars clauses assumed Denied = IsDenied clauses assumed
 
+-- the answer is right for these clauses
+abbrev pub IsAnswer : ℕ → List (List ℤ) → Answer → Type 0
+IsAnswer vars clauses (Answer.Model sides) = (length sides ≡ vars) × (list_all (clause_true (side_of sides)) clauses ≡ true)
+IsAnswer vars clauses (Answer.Refuted log) = (refuted log ≡ true) × All (Contains clauses) log.inputs
+
 -- ---- both sides of each variable, one after another
+
+-- the literal of a variable that is true on this side of it
+abbrev pub literal_at : ℕ → Bool → ℤ
+literal_at n true = pos n
+literal_at n false = neg_ℤ (pos n)
 
 -- the opposites of these
 abbrev pub opposites : List ℤ → List ℤ
@@ -73,3 +85,10 @@ Extends before after = (more : List Step) × (after ≡ before ++ more)
 -- some clause at a place is false
 abbrev pub IsFalseAt : List Bool → List (List ℤ) → ℕ → Type 0
 IsFalseAt sides clauses at = (clause : List ℤ) × (slice_get clauses at ≡ Some clause) × (clause_true (side_of sides) clause ≡ false)
+
+-- of two hints, the first names a clause which denies what is decided with a variable's true side, and the second one with its other side
+abbrev pub AreBothDenied : List (List ℤ) → List ℤ → ℕ → List ℕ → Type 0
+AreBothDenied clauses decided n hints =
+    (left : ℕ) × (right : ℕ) × (hints ≡ left ∷ right ∷ []) ×
+    (named clauses left ≡ Some (opposites (decided ++ literal_at n true ∷ []))) ×
+    (named clauses right ≡ Some (opposites (decided ++ literal_at n false ∷ [])))

@@ -7,4 +7,4 @@ pub loop-at-preserved : goal.loop-at-preserved
 loop-at-preserved c =
     rw c.in_ok-push.ensures.ok
     (All-push (Contains c.args.inputs.now) c.loop-at.made c.in_ok-copy.field-0 c.loop-at.invariant
-    (rw c.in_ok-copy.ensures (c.loop-at.at, omega arith, first_of (c.index-inputs-at.is, cc))))
+    (rw c.in_ok-copy.ensures (c.loop-at.at, omega arith, ?)))
