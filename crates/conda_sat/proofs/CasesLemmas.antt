@@ -10,9 +10,10 @@ use Rattle.std.proofs.lemmas.List.Folds.{list_all-append, list_any-append}
 use Rattle.std.proofs.lemmas.Option.{slice_get_within}
 use Rattle.conda_refute.specs.Literals.{clause_true, has, literal_true}
 use Rattle.conda_refute.specs.Refutation.{by_clause, by_left, clauses_of, follows, has_opposites, hints_end, named, not_false}
+use Rattle.conda_refute.specs.declared.log.Log.{Log}
 use Rattle.conda_refute.specs.declared.log.Step.{Step}
-use Rattle.conda_sat.specs.Answers.{AreDecided, AreSidesOf, EndsWith, Extends, IsFalseAt, Satisfies, is_within, literal_at, opposites, side_of, variable_of}
-use Rattle.conda_sat.proofs.SidesLemmas.{all_at, get_true}
+use Rattle.conda_sat.specs.Answers.{AreDecided, AreSidesOf, EndsWith, Extends, IsDenied, IsFalseAt, Satisfies, denies, is_within, literal_at, opposites, side_of, variable_of}
+use Rattle.conda_sat.proofs.SidesLemmas.{all_at, denied_by, get_true}
 
 -- ---- lists of literals
 
@@ -291,3 +292,12 @@ sides-push n decided sides b s e = record {
   all = omega (arith, length-append sides (b ∷ []), s.all);
   each = λ k low high. each-push n decided sides b s e k low (less_or_same k (n + 1) (omega arith));
 }
+
+-- ---- what the last step denies
+
+denies_own : (xs : List ℤ) → denies xs (opposites xs) ≡ true
+denies_own xs = all_from (λ l. has xs (neg_ℤ l)) (opposites xs) (λ l h. sym (has-opposites xs l) ∙ h)
+
+-- a last step of the opposites of assumed literals denies these
+pub denied_at_end : (log : Log) (assumed : List ℤ) → ((v : ℕ → Bool) → list_all (clause_true v) log.inputs ≡ true → list_all (λ s. clause_true v s.clause) log.steps ≡ true) → EndsWith log.steps (opposites assumed) → IsDenied log.inputs assumed
+denied_at_end log assumed hold ends = denied_by log.inputs log.steps (length log.steps - 1) ends.0 assumed hold ends.1 (ap (denies assumed) ends.2 ∙ denies_own assumed)

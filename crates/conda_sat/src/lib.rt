@@ -16,8 +16,10 @@ mod solver;
 mod trim;
 mod verdict;
 mod watches;
+mod within;
 
 pub use error::SatErr;
 pub use question::solve;
 pub use solver::Solver;
 pub use verdict::{Answer, Verdict};
+pub use within::{clauses_are_within, literals_are_within};

@@ -1,6 +1,6 @@
 ghost use Rattle.std.specs.Prelude.{◌≡◌};
 
-use crate::denial::holds_opposites;
+use crate::assignment::place_of;
 use crate::ledger::Ledger;
 use crate::search::Search;
 use conda_base::Rows;
@@ -33,7 +33,8 @@ pub fn loaded(alloc: Global, vars: u32, ledger: &Ledger) -> Result<Search, Alloc
     let log = ledger.log();
     for clause in log.inputs.as_slice() {
         let clause = clause.as_slice();
-        search.push_clause(clause, !repeats(clause) && !holds_opposites(clause))?;
+        let is_watched = shape_of(alloc, clause)? == Shape::Plain;
+        search.push_clause(clause, is_watched)?;
     }
     for step in log.steps.as_slice() {
         search.push_clause(step.clause.as_slice(), true)?;
@@ -47,12 +48,33 @@ pub fn loaded(alloc: Global, vars: u32, ledger: &Ledger) -> Result<Search, Alloc
     Ok(search)
 }
 
-/// Whether a literal stands in the clause twice.
-pub fn repeats(clause: &[i32]) -> bool {
-    for (at, literal) in clause.iter().enumerate() {
-        if clause[..at].contains(literal) {
-            return true;
-        }
+/// What stands in a clause.
+#[derive(Clone, Copy, Debug, PartialEq, Eq)]
+pub enum Shape {
+    /// Literals of different variables.
+    Plain,
+    /// A literal twice, and no opposites.
+    Repeats,
+    /// Two literals that are opposites.
+    Opposites,
+}
+
+/// What stands in a clause.
+pub fn shape_of(alloc: Global, clause: &[i32]) -> Result<Shape, AllocError> {
+    let mut places = Vec::with_capacity(alloc, clause.len())?;
+    for literal in clause {
+        places.push(place_of(*literal))?;
     }
-    false
+    places.sort_unstable();
+    let mut shape = Shape::Plain;
+    let mut before = 0_usize;
+    for place in places.iter() {
+        if *place == before {
+            shape = Shape::Repeats;
+        } else if *place == before | 1 {
+            return Ok(Shape::Opposites);
+        }
+        before = *place;
+    }
+    Ok(shape)
 }

@@ -1,7 +1,6 @@
 use crate::analysis::{Analysis, Learned};
 use crate::assignment::{Assignment, Value, opposite_of, short, variable_of};
-use crate::denial::holds_opposites;
-use crate::load::repeats;
+use crate::load::{Shape, shape_of};
 use crate::queue::Queue;
 use crate::watches::{Watch, Watches};
 use std::alloc::{AllocError, Global};
@@ -76,9 +75,6 @@ impl Search {
         Ok(sides)
     }
 
-    pub fn value(&self, literal: i32) -> Value {
-        self.assignment.value(literal)
-    }
 
     /// Takes up the next clause of the steps. Where it isn't watched, it plays no part in the search.
     pub fn push_clause(&mut self, clause: &[i32], is_watched: bool) -> Result<(), AllocError> {
@@ -141,27 +137,28 @@ impl Search {
     /// At level 0, takes up what the clause with this number says by itself: that it is false, that its one literal is true, or, where a
     /// literal stands in it twice, the clause with each literal once.
     pub fn settle(&mut self, number: u32) -> Result<(), AllocError> {
-        let clause = self.watches.clause(number);
-        if holds_opposites(clause) {
-            return Ok(());
-        }
-        if repeats(clause) {
-            let mut once = Vec::with_capacity(self.alloc, clause.len())?;
-            for literal in clause {
-                if !once.contains(literal) {
-                    once.push(*literal)?;
-                }
+        match shape_of(self.alloc, self.watches.clause(number))? {
+            Shape::Plain => self.settle_short(number),
+            Shape::Repeats => {
+                self.take_once(number)?;
+                let again = self.last_number();
+                self.settle_short(again)
             }
-            let hints = vec![in self.alloc; u64::from(number)]?;
-            self.take_up(Learned {
-                clause: once,
-                hints,
-                level: 0,
-            })?;
-            let again = self.last_number();
-            return self.settle_short(again);
+            Shape::Opposites => Ok(()),
         }
-        self.settle_short(number)
+    }
+
+    /// Learns the clause with each literal once.
+    fn take_once(&mut self, number: u32) -> Result<(), AllocError> {
+        let mut clause = Vec::from_slice(self.alloc, self.watches.clause(number))?;
+        clause.sort_unstable();
+        clause.dedup();
+        let hints = vec![in self.alloc; u64::from(number)]?;
+        self.take_up(Learned {
+            clause,
+            hints,
+            level: 0,
+        })
     }
 
     fn settle_short(&mut self, number: u32) -> Result<(), AllocError> {
@@ -269,7 +266,8 @@ impl Search {
         }
         for literal in order.iter().skip(*next) {
             *next = next.saturating_add(1);
-            if self.assignment.value(*literal) == Value::Open {
+            let is_variable = *literal != 0 && literal.unsigned_abs() <= self.vars;
+            if is_variable && self.assignment.value(*literal) == Value::Open {
                 self.assignment.begin_level()?;
                 self.assignment.assign(*literal, None)?;
                 return Ok(None);

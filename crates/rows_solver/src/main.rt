@@ -1,6 +1,8 @@
 //! The rows of the solver and its checker.
 #![tactic(auto)]
 
+mod sat;
+
 use conda_base::Text;
 use rows_text::{Table, print_rows};
 use std::alloc::{AllocError, Global};
@@ -11,11 +13,11 @@ struct Solver;
 impl Table for Solver {
     fn answer(
         &self,
-        _alloc: Global,
-        _call: &str,
-        _arguments: &[Text],
+        alloc: Global,
+        call: &str,
+        arguments: &[Text],
     ) -> Result<Option<String>, AllocError> {
-        Ok(None)
+        sat::answer(alloc, call, arguments)
     }
 }
 
