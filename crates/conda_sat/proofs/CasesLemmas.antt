@@ -220,13 +220,13 @@ both_follow clauses decided l left right apart free free_opposite first second =
     let open_l : has falses (neg_ℤ m) ≡ false = has-opposites decided (neg_ℤ m) ∙ ap (has decided) (neg_ℤ-neg_ℤ m) ∙ free_opposite in
     let left_one : not_false falses (opposites (decided ++ l ∷ [])) ≡ m ∷ [] = ap (not_false falses) (opposites-push decided l) ∙ one_left falses falses m (λ q h. h) open_m in
     let right_none : not_false (neg_ℤ m ∷ falses) (opposites (decided ++ m ∷ [])) ≡ [] =
-        ap (not_false (neg_ℤ m ∷ falses)) (opposites-push decided m)
-        ∙ none_left (neg_ℤ m ∷ falses) (falses ++ neg_ℤ m ∷ []) (λ q h. elim (or_cases (has falses q) (has (neg_ℤ m ∷ []) q) (sym (has-append falses (neg_ℤ m ∷ []) q) ∙ h)) [
-          | inl k ↦ has_there (neg_ℤ m) falses q k
-          | inr k ↦ ap (has (neg_ℤ m ∷ falses)) (only_one (neg_ℤ m) q k) ∙ has_here (neg_ℤ m) falses
-        ]) in
+    ap (not_false (neg_ℤ m ∷ falses)) (opposites-push decided m)
+    ∙ none_left (neg_ℤ m ∷ falses) (falses ++ neg_ℤ m ∷ []) (λ q h. elim (or_cases (has falses q) (has (neg_ℤ m ∷ []) q) (sym (has-append falses (neg_ℤ m ∷ []) q) ∙ h)) [
+      | inl k ↦ has_there (neg_ℤ m) falses q k
+      | inr k ↦ ap (has (neg_ℤ m ∷ falses)) (only_one (neg_ℤ m) q k) ∙ has_here (neg_ℤ m) falses
+    ]) in
     let rest : hints_end clauses (right ∷ []) (neg_ℤ m ∷ falses) ≡ true =
-        ap (by_clause (hints_end clauses []) (neg_ℤ m ∷ falses)) second ∙ ap (by_left (hints_end clauses []) (neg_ℤ m ∷ falses)) right_none in
+    ap (by_clause (hints_end clauses []) (neg_ℤ m ∷ falses)) second ∙ ap (by_left (hints_end clauses []) (neg_ℤ m ∷ falses)) right_none in
     and_from (not (has_opposites falses)) (hints_end clauses (left ∷ right ∷ []) falses) (not_from_false _ (opposites_apart decided apart))
     (ap (by_clause (hints_end clauses (right ∷ [])) falses) first ∙ ap (by_left (hints_end clauses (right ∷ [])) falses) left_one
     ∙ and_from (not (has falses (neg_ℤ m))) (hints_end clauses (right ∷ []) (neg_ℤ m ∷ falses)) (not_from_false _ open_l) rest)

@@ -10,6 +10,8 @@ pub struct Learned {
     pub hints: Vec<u64>,
     /// The level to go back to.
     pub level: u32,
+    /// How many levels the literals were of, or 0 where the clause is kept in any case.
+    pub levels: u32,
 }
 
 /// A clause that was used, and where its literal stands in the trail.
@@ -28,6 +30,9 @@ pub struct Analysis {
     /// For each variable that is known for good, the number of a clause of its literal alone.
     units: Vec<u32>,
     unit_hints: Vec<u64>,
+    /// For each level the last count that met it, and the number of counts.
+    counted: Vec<u64>,
+    counts: u64,
 }
 
 impl Analysis {
@@ -39,6 +44,8 @@ impl Analysis {
             used: Vec::new(alloc),
             units: vec![in alloc; 0; size]?,
             unit_hints: Vec::new(alloc),
+            counted: vec![in alloc; 0; size]?,
+            counts: 0,
         })
     }
 
@@ -151,11 +158,29 @@ impl Analysis {
             queue.bump(short(variable_of(*literal)), false);
         }
         self.forget();
+        let levels = self.levels(assignment, clause.as_slice());
         Ok(Learned {
             clause,
             hints,
             level: back,
+            levels,
         })
+    }
+
+    /// How many levels these literals are of.
+    fn levels(&mut self, assignment: &Assignment, clause: &[i32]) -> u32 {
+        self.counts = self.counts.wrapping_add(1);
+        let mut levels = 0_u32;
+        for literal in clause {
+            let level = assignment.known(*literal).level as usize;
+            if let Some(counted) = self.counted.get_mut(level) {
+                if *counted != self.counts {
+                    *counted = self.counts;
+                    levels = levels.saturating_add(1);
+                }
+            }
+        }
+        levels
     }
 
     /// Meets the literals of a clause but for one. Those below the level go into the clause; answers how many new ones are at it.
@@ -272,6 +297,7 @@ impl Analysis {
             clause,
             hints,
             level: 0,
+            levels: 0,
         })
     }
 
@@ -298,6 +324,7 @@ impl Analysis {
             clause,
             hints,
             level: 0,
+            levels: 0,
         })
     }
 }

@@ -10,12 +10,7 @@ use std::alloc::Global;
 
 /// Sides of the variables 1 to `vars` that make every clause true, or a refutation. The literals of `order` are tried first, in their order;
 /// those of other variables are passed over, and none decides whether there is a model.
-pub fn solve(
-    alloc: Global,
-    vars: u32,
-    clauses: &[Clause],
-    order: &[i32],
-) -> Result<Answer, SatErr>
+pub fn solve(alloc: Global, vars: u32, clauses: &[Clause], order: &[i32]) -> Result<Answer, SatErr>
     requires few { vars < 2 ^ 31 }
     requires within { list_all (list_all (is_within vars)) clauses.now ≡ true }
     ensures { IfOk result (IsAnswer vars clauses.now) }

@@ -38,6 +38,20 @@ enum Found {
     Conflict(u32),
 }
 
+/// A learned clause that may be dropped. The first ones in order are the better ones.
+#[derive(Clone, Copy, Debug, PartialEq, Eq, PartialOrd, Ord)]
+struct Spare {
+    /// How many levels its literals were of.
+    levels: u32,
+    length: usize,
+    clause: u32,
+}
+
+/// After how many conflicts clauses are dropped for the first time, and how many more conflicts it takes each further time.
+const FIRST_DROP: u64 = 2000;
+
+const MORE: u64 = 300;
+
 /// A search that learns: a trail of literals, of which each was decided or follows from a clause by those before it.
 #[derive(Drop)]
 pub struct Search {
@@ -48,6 +62,10 @@ pub struct Search {
     queue: Queue,
     analysis: Analysis,
     learned: Vec<Learned>,
+    spares: Vec<Spare>,
+    /// How many conflicts are left until clauses are dropped, and how many there were from the last time on.
+    left: u64,
+    span: u64,
     is_over: bool,
 }
 
@@ -61,6 +79,9 @@ impl Search {
             queue: Queue::new(alloc, vars)?,
             analysis: Analysis::new(alloc, vars)?,
             learned: Vec::new(alloc),
+            spares: Vec::new(alloc),
+            left: FIRST_DROP,
+            span: FIRST_DROP,
             is_over: false,
         })
     }
@@ -74,7 +95,6 @@ impl Search {
         }
         Ok(sides)
     }
-
 
     /// Takes up the next clause of the steps. Where it isn't watched, it plays no part in the search.
     pub fn push_clause(&mut self, clause: &[i32], is_watched: bool) -> Result<(), AllocError> {
@@ -158,6 +178,7 @@ impl Search {
             clause,
             hints,
             level: 0,
+            levels: 0,
         })
     }
 
@@ -216,6 +237,7 @@ impl Search {
                         return Ok(Outcome::Denied);
                     }
                     self.learn(conflict)?;
+                    self.drop_some()?;
                     conflicts = conflicts.saturating_add(1);
                     next = 0;
                 }
@@ -244,14 +266,44 @@ impl Search {
         let level = learned.level;
         let first = learned.clause.first().copied();
         let is_unit = learned.clause.len() == 1;
+        let (levels, length) = (learned.levels, learned.clause.len());
         self.take_up(learned)?;
         self.back_to(level);
         let number = self.last_number();
+        if levels > 2 {
+            self.spares.push(Spare {
+                levels,
+                length,
+                clause: number,
+            })?;
+        }
         match first {
             Some(literal) if is_unit => self.fix(literal, number),
             Some(literal) => self.assignment.assign(literal, Some(number)),
             None => Ok(()),
         }
+    }
+
+    /// Now and then, drops the worse half of the learned clauses from the search, but for those that are reasons. The ledger keeps them.
+    fn drop_some(&mut self) -> Result<(), AllocError> {
+        self.left = self.left.saturating_sub(1);
+        if self.left > 0 {
+            return Ok(());
+        }
+        self.span = self.span.saturating_add(MORE);
+        self.left = self.span;
+        self.spares.sort_unstable();
+        let half = self.spares.len() / 2;
+        let mut kept = Vec::with_capacity(self.alloc, self.spares.len())?;
+        for (at, spare) in self.spares.iter().enumerate() {
+            if at < half || is_reason(&self.assignment, &self.watches, spare.clause) {
+                kept.push(*spare)?;
+            } else {
+                self.watches.forget(spare.clause);
+            }
+        }
+        self.spares = kept;
+        Ok(())
     }
 
     /// Decides a literal, or answers what the search came to.
@@ -406,6 +458,17 @@ impl Search {
         } else {
             Ok(Look::Conflict)
         }
+    }
+}
+
+/// Whether the first literal of the clause follows from it.
+fn is_reason(assignment: &Assignment, watches: &Watches, number: u32) -> bool {
+    match watches.clause(number) {
+        [first, ..] => {
+            assignment.value(*first) == Value::True
+                && assignment.known(*first).reason == Some(number)
+        }
+        [] => false,
     }
 }
 

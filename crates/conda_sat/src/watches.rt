@@ -65,13 +65,20 @@ impl Watches {
         }
     }
 
-    /// The same, to be put in another order.
+    /// The same, to be put in another order. None where there are none.
     pub fn clause_mut(&mut self, number: u32) -> Option<&mut [i32]> {
         let span = *self.spans.get((number as usize).wrapping_sub(1))?;
-        if span.start <= span.end && span.end <= self.literals.len() {
+        if span.start < span.end && span.end <= self.literals.len() {
             Some(&mut self.literals[span.start..span.end])
         } else {
             None
+        }
+    }
+
+    /// Drops a clause: from here on it has no literals, and each list loses it when it is looked at.
+    pub fn forget(&mut self, number: u32) {
+        if let Some(span) = self.spans.get_mut((number as usize).wrapping_sub(1)) {
+            *span = Span { start: 0, end: 0 };
         }
     }
 

@@ -24,7 +24,10 @@ deny_both-requires-clause-hints t c =
     let left_same = c.as_slice.ensures.value ∙ c.in_ok-left.ensures in
     let right_same = c.as_slice-2.ensures.value ∙ c.in_ok-right.ensures in
     let left_named = last_named second.inputs first.steps second.steps _ left_ends c.in_ok-found-2.ensures.more in
-    let right_named = last_named second.inputs second.steps second.steps _ right_ends ([], sym (append-nil second.steps)) in
-    (c.last_number-left.result, c.last_number-right.result, c.from_vec-hints.ensures ∙ c.in_ok-vec.ensures.items,
-    rw (c.last_number-left.ensures, ← c.by_cases-3.ensures.inputs) (left_named ∙ ap (λ xs. Some (opposites xs)) left_same),
-    rw c.last_number-right.ensures (right_named ∙ ap (λ xs. Some (opposites xs)) right_same))
+    let right_named = last_named second.inputs second.steps second.steps _ right_ends ([], sym (append-nil second.steps)) in (
+      c.last_number-left.result,
+      c.last_number-right.result,
+      c.from_vec-hints.ensures ∙ c.in_ok-vec.ensures.items,
+      rw (c.last_number-left.ensures, ← c.by_cases-3.ensures.inputs) (left_named ∙ ap (λ xs. Some (opposites xs)) left_same),
+      rw c.last_number-right.ensures (right_named ∙ ap (λ xs. Some (opposites xs)) right_same),
+    )

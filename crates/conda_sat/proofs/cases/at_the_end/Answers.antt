@@ -22,8 +22,8 @@ returns-in-None-clause-model c =
     let sides = c.in_ok-sides.sides.items in
     let same = c.as_slice-2.ensures ∙ ap (λ l. l.inputs) c.log.ensures.same in
     let clauses_true =
-        ap (λ ss. list_all (clause_true (side_of ss)) c.args.ledger.now.inputs) (sym c.as_slice.ensures.value)
-        ∙ ap (λ xs. list_all (clause_true (side_of c.as_slice.result.now)) xs) (sym same) ∙ c.in-None.ensures.none in
+    ap (λ ss. list_all (clause_true (side_of ss)) c.args.ledger.now.inputs) (sym c.as_slice.ensures.value)
+    ∙ ap (λ xs. list_all (clause_true (side_of c.as_slice.result.now)) xs) (sym same) ∙ c.in-None.ensures.none in
     (c.in_ok-sides.ensures.all, (clauses_true, decided_satisfied c.args.vars c.args.decided.now sides c.requires.decided c.in_ok-sides.ensures))
 
 pub returns-in_ok-put-in-Some-clause-none : goal.returns-in_ok-put-in-Some-clause-none
