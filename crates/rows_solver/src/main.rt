@@ -2,6 +2,7 @@
 #![tactic(auto)]
 
 mod refute;
+mod sat;
 
 use conda_base::Text;
 use rows_text::{Table, print_rows};
@@ -17,7 +18,10 @@ impl Table for Solver {
         call: &str,
         arguments: &[Text],
     ) -> Result<Option<String>, AllocError> {
-        refute::answer(alloc, call, arguments)
+        if let Some(answer) = refute::answer(alloc, call, arguments)? {
+            return Ok(Some(answer));
+        }
+        sat::answer(alloc, call, arguments)
     }
 }
 

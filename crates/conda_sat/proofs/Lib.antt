@@ -1,0 +1,4 @@
+mod CasesLemmas
+mod InputLemmas
+mod LedgerLemmas
+mod SidesLemmas
