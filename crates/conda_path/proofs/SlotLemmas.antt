@@ -1,55 +1,36 @@
 -- A text of a slot key is that of one key, where the channel and the dist hold no `/`.
-use Rattle.std.proofs.Common.{◌≡◌, ◌≢◌, ℕ, List, [], ◌∷◌, ◌++◌, refl}
+use Rattle.std.proofs.Common.{◌≡◌, ◌↔◌, ℕ, List, ◌∷◌, ◌++◌, Some, ap, refl, sym, ◌∙◌}
 use Rattle.std.specs.Prelude.{Option}
-use Rattle.std.specs.List.{AllByRecursion}
 use Rattle.std.proofs.lemmas.Iterator.{YieldsList}
+use Rattle.conda_base.specs.Signs.{slash}
+use Rattle.conda_base.specs.Texts.{IsFreeOf, cut_first, cut_last}
 use Rattle.conda_path.specs.Slots.{HasNoSlash, slot_text}
 use Rattle.conda_path.specs.declared.slot.SlotKey.{SlotKey}
 
--- no `/` in a text
-Plain : List ℕ → Type 0
-Plain text = AllByRecursion (λ b. b ≢ 47) text
+-- what the laws of cuts say of `/`
+pub record Laws : Type 0 where
+  pub first : (text before behind : List ℕ) → (cut_first slash text ≡ Some (before, behind)) ↔ ((text ≡ before ++ slash ∷ behind) × IsFreeOf slash before)
+  pub last : (text before behind : List ℕ) → (cut_last slash text ≡ Some (before, behind)) ↔ ((text ≡ before ++ slash ∷ behind) × IsFreeOf slash behind)
 
-holds_slash : (front back : List ℕ) → Plain (front ++ 47 ∷ back) → ⊥
-unfolding Plain
-holds_slash [] back h = h.0 refl
-holds_slash (b ∷ front) back h = holds_slash front back h.1
-
--- a text is cut in one way at its first `/`
-first_cut : (x y p q : List ℕ) → Plain x → Plain y → x ++ 47 ∷ p ≡ y ++ 47 ∷ q → (x ≡ y) × (p ≡ q)
-unfolding Plain
-first_cut [] [] p q g h e = (refl, cc)
-first_cut [] (b ∷ y) p q g h e = absurd (let same : b ≡ 47 = cc in h.0 same)
-first_cut (a ∷ x) [] p q g h e = absurd (let same : a ≡ 47 = cc in g.0 same)
-first_cut (a ∷ x) (b ∷ y) p q g h e =
-    let head : a ≡ b = cc in
-    let r = first_cut x y p q g.1 h.1 (cc) in
-    let front : x ≡ y = r.0 in
-    (cc, r.1)
-
--- and at its last
-last_cut : (x y p q : List ℕ) → Plain p → Plain q → x ++ 47 ∷ p ≡ y ++ 47 ∷ q → (x ≡ y) × (p ≡ q)
-unfolding Plain
-last_cut [] [] p q g h e = (refl, cc)
-last_cut [] (b ∷ y) p q g h e = absurd (let same : p ≡ y ++ 47 ∷ q = cc in holds_slash y q (rw same at g))
-last_cut (a ∷ x) [] p q g h e = absurd (let same : q ≡ x ++ 47 ∷ p = cc in holds_slash x p (rw same at h))
-last_cut (a ∷ x) (b ∷ y) p q g h e =
-    let head : a ≡ b = cc in
-    let r = last_cut x y p q g h (cc) in
-    let front : x ≡ y = r.0 in
-    (cc, r.1)
+same_halves : (a b : List ℕ × List ℕ) → Some a ≡ Some b → a ≡ b
+same_halves a b h = cc
 
 key_of : List ℕ → List ℕ → List ℕ → SlotKey
 key_of channel subdir dist = record { channel = channel; subdir = subdir; dist = dist }
 
-pub one_key_of : (a b : SlotKey) → HasNoSlash a → HasNoSlash b → slot_text a ≡ slot_text b → a ≡ b
-unfolding Plain key_of
-one_key_of a b g h e =
-    let outer = first_cut a.channel b.channel (a.subdir ++ 47 ∷ a.dist) (b.subdir ++ 47 ∷ b.dist) g.channel h.channel e in
-    let inner = last_cut a.subdir b.subdir a.dist b.dist g.dist h.dist outer.1 in
-    let channels : a.channel ≡ b.channel = outer.0 in
-    let subdirs : a.subdir ≡ b.subdir = inner.0 in
-    let dists : a.dist ≡ b.dist = inner.1 in
+pub one_key_of : Laws → (a b : SlotKey) → HasNoSlash a → HasNoSlash b → slot_text a ≡ slot_text b → a ≡ b
+unfolding key_of
+one_key_of laws a b g h e =
+    let outer = same_halves (a.channel, a.subdir ++ slash ∷ a.dist) (b.channel, b.subdir ++ slash ∷ b.dist)
+    (sym ((laws.first (slot_text a) _ _).1 (refl, g.channel)) ∙ (laws.first (slot_text a) _ _).1 (e, h.channel))
+    in
+    let behind : a.subdir ++ slash ∷ a.dist ≡ b.subdir ++ slash ∷ b.dist = ap (λ halves. halves.1) outer in
+    let inner = same_halves (a.subdir, a.dist) (b.subdir, b.dist)
+    (sym ((laws.last (a.subdir ++ slash ∷ a.dist) _ _).1 (refl, g.dist)) ∙ (laws.last (a.subdir ++ slash ∷ a.dist) _ _).1 (behind, h.dist))
+    in
+    let channels : a.channel ≡ b.channel = ap (λ halves. halves.0) outer in
+    let subdirs : a.subdir ≡ b.subdir = ap (λ halves. halves.0) inner in
+    let dists : a.dist ≡ b.dist = ap (λ halves. halves.1) inner in
     let all : key_of a.channel a.subdir a.dist ≡ key_of b.channel b.subdir b.dist = cc in
     all
 

@@ -1,19 +1,18 @@
 -- Dists: the names of packages, `name-version-build`, as conda's dist.py splits them at the last two dashes.
 -- Which bytes they hold is this project's own rule.
-use Rattle.std.specs.Prelude.{◌≡◌, ◌≢◌, ℕ, ◌≤◌, Bool, true, false, ◌&&◌, ◌||◌, ◌==◌, nat_lt, nat_le, nat_eq, not, List, [], ◌∷◌, ◌++◌, length, codes}
+use Rattle.std.specs.Prelude.{◌≡◌, ◌≢◌, ℕ, ◌≤◌, Bool, false, ◌&&◌, ◌||◌, ◌==◌, nat_le, nat_eq, not, List, [], ◌∷◌, ◌++◌, length, codes}
 use Rattle.std.specs.List.{AllByRecursion, after_last, before_last, ends_with, list_any}
+use Rattle.conda_base.specs.Signs.{colon, dash, equals, hash, plus, slash}
+use Rattle.conda_base.specs.Texts.{IsFreeOf, is_byte, is_empty}
+use Rattle.conda_path.specs.Paths.{is_control_or_space}
 
--- `-`
-abbrev pub is_dash : ℕ → Bool
-is_dash b = b == 45
-
--- no dist holds such a byte: one below 33, 127, `/` or `:`
+-- no dist holds such a byte: a control byte, a space, `/` or `:`
 abbrev pub is_bad_byte : ℕ → Bool
-is_bad_byte b = nat_lt b 33 || b == 127 || b == 47 || b == 58
+is_bad_byte b = is_control_or_space b || b == slash || b == colon
 
 -- no dist begins with such a byte: `+`, `-`, `#` or `=`
 abbrev pub is_bad_front : ℕ → Bool
-is_bad_front b = b == 43 || b == 45 || b == 35 || b == 61
+is_bad_front b = b == plus || b == dash || b == hash || b == equals
 
 -- the text's first byte is one
 abbrev pub begins_badly : List ℕ → Bool
@@ -26,17 +25,17 @@ names_file text = ends_with nat_eq text (codes ".tar.bz2") || ends_with nat_eq t
 
 -- ---- the rule
 
-abbrev pub joined : List ℕ → List ℕ → List ℕ → List ℕ
-joined name version build = name ++ 45 ∷ (version ++ 45 ∷ build)
+abbrev pub dist_text : List ℕ → List ℕ → List ℕ → List ℕ
+dist_text name version build = name ++ dash ∷ (version ++ dash ∷ build)
 
 -- name, version and build, none of them empty, split at the last two dashes
 pub record IsSplit (text name version build : List ℕ) : Type 0 where
-  pub text_is : text ≡ joined name version build
+  pub text_is : text ≡ dist_text name version build
   pub name_some : name ≢ []
   pub version_some : version ≢ []
   pub build_some : build ≢ []
-  pub version_plain : AllByRecursion (λ b. is_dash b ≡ false) version
-  pub build_plain : AllByRecursion (λ b. is_dash b ≡ false) build
+  pub version_plain : IsFreeOf dash version
+  pub build_plain : IsFreeOf dash build
 
 pub record IsDist (text : List ℕ) : Type 0 where
   pub split : (name : List ℕ) × (version : List ℕ) × (build : List ℕ) × IsSplit text name version build
@@ -49,21 +48,17 @@ pub record IsDist (text : List ℕ) : Type 0 where
 
 -- what stands before the last two dashes, between them and behind them
 abbrev pub dist_name : List ℕ → List ℕ
-dist_name text = before_last is_dash (before_last is_dash text)
+dist_name text = before_last (is_byte dash) (before_last (is_byte dash) text)
 
 abbrev pub dist_version : List ℕ → List ℕ
-dist_version text = after_last is_dash (before_last is_dash text)
+dist_version text = after_last (is_byte dash) (before_last (is_byte dash) text)
 
 abbrev pub dist_build : List ℕ → List ℕ
-dist_build text = after_last is_dash text
-
-abbrev pub is_some_text : List ℕ → Bool
-is_some_text [] = false
-is_some_text (b ∷ rest) = true
+dist_build text = after_last (is_byte dash) text
 
 -- two dashes at least, with something before, between and behind the last two
 abbrev pub has_parts : List ℕ → Bool
-has_parts text = is_some_text (dist_name text) && is_some_text (dist_version text) && is_some_text (dist_build text)
+has_parts text = not (is_empty (dist_name text)) && not (is_empty (dist_version text)) && not (is_empty (dist_build text))
 
 abbrev pub is_dist : List ℕ → Bool
 is_dist text =

@@ -1,26 +1,29 @@
-ghost use Rattle.std.specs.Prelude.{◌≡◌, ◌≢◌, ◌<◌, ℕ, IfNone, IfOk, IfSome, IsErrOf, OnOk, false, length, slice_index, true};
+ghost use Rattle.std.specs.Prelude.{◌≡◌, ◌↔◌, ℕ, List, IfOk, IsErrOf, OnOk, false, true};
 ghost use Rattle.std.specs.List.{after_last, before_last, list_any};
+ghost use Rattle.conda_base.specs.Signs.{dash};
+ghost use Rattle.conda_base.specs.Texts.{is_byte};
 ghost use Rattle.conda_path.specs.Dists as dists;
-ghost use Rattle.conda_path.specs.Dists.{dist_build, dist_name, dist_version, IsDist, joined};
+ghost use Rattle.conda_path.specs.Dists.{dist_build, dist_name, dist_text, dist_version};
+ghost use Rattle.conda_path.specs.Dists.{IsDist, IsSplit};
 
 use crate::error::DistErr;
-use conda_base::{Copied, Text};
+use crate::scan::{self, Bad};
+use conda_base::{Copied, Text, cut_last, cut_laws};
 use std::alloc::{AllocError, Global};
-use std::cmp::Ordering;
-use std::hash::{Hash, Hasher};
 use std::marker::Model;
 
 /// The most bytes of a dist.
 const DIST_LIMIT: usize = 255;
 
-/// A package's name, version and build in one text, `name-version-build`, split at the last two `-`.
+/// A package's name, version and build in one text, `name-version-build`, split at the last two
+/// `-`.
 ///
-/// None of the three is empty. No byte is `/`, `:`, below 33 or 127. The text begins with none of `+`, `-`, `#`
-/// and `=`, ends with neither `.tar.bz2` nor `.conda`, and has at most 255 bytes. The split is that of conda's
-/// `dist.py`; the rest is this project's own rule.
+/// None of the three is empty. No byte is `/`, `:`, below 33 or 127. The text begins with none of
+/// `+`, `-`, `#` and `=`, ends with neither `.tar.bz2` nor `.conda`, and has at most 255 bytes.
+/// The split is that of conda's `dist.py`; the rest is this project's own rule.
 ///
 /// Contracts see it as the list of its bytes, by which dists are compared and hashed.
-#[derive(Debug, Drop)]
+#[derive(Clone, Debug, PartialEq, Eq, PartialOrd, Ord, Hash, Drop)]
 pub struct Dist {
     text: Text,
 }
@@ -34,29 +37,16 @@ impl Model for Dist {
 
     ghost view = { λ d. d.text };
 
-    ghost invariant = { λ d. is_dist d.text ≡ true };
-}
+    ghost inverse = { λ t. record { text = t } };
 
-/// The offset of the last `-`.
-fn last_dash(text: &[u8]) -> Option<usize>
-    ensures dash { IfSome result (λ at. (at < length text.now) × (slice_index text.now at ≡ 45)) }
-    ensures last { IfSome result (λ at. (k : ℕ) → at < k → k < length text.now → slice_index text.now k ≢ 45) }
-    ensures none { IfNone result ((k : ℕ) → k < length text.now → slice_index text.now k ≢ 45) }
-{
-    let mut last = None;
-    for (at, byte) in text.iter().enumerate() {
-        if *byte == b'-' {
-            last = Some(at);
-        }
-    }
-    last
+    ghost invariant = { λ d. is_dist d.text ≡ true };
 }
 
 /// Whether a byte is one that no dist holds.
 fn is_bad_byte(byte: u8) -> bool
     ensures { result ≡ dists.is_bad_byte byte }
 {
-    byte < 33 || byte == 127 || byte == b'/' || byte == b':'
+    scan::is_bad_byte(Bad::ControlOrSpace, byte) || byte == b'/' || byte == b':'
 }
 
 /// Whether the text begins with a byte that no dist begins with.
@@ -71,11 +61,12 @@ fn begins_badly(text: &[u8]) -> bool
 
 /// What stands before the last `-` and behind it; nothing and the whole text, where there is none.
 fn cut(text: &str) -> (&str, &str)
-    ensures before { result.0.now ≡ before_last dists.is_dash text.now }
-    ensures behind { result.1.now ≡ after_last dists.is_dash text.now }
+    ensures before { result.0.now ≡ before_last (is_byte dash) text.now }
+    ensures behind { result.1.now ≡ after_last (is_byte dash) text.now }
 {
-    match last_dash(text.as_bytes()) {
-        Some(at) => (&text[..at], &text[at + 1..]),
+    cut_laws();
+    match cut_last(text, b'-') {
+        Some(halves) => halves,
         None => ("", text),
     }
 }
@@ -123,6 +114,18 @@ fn is_dist(text: &str) -> bool
     has_parts(text)
 }
 
+/// The test of a dist is its rule: a name, a version and a build in one text, which are found
+/// again.
+pub fn dist_laws()
+    ensures rule { (text : List ℕ) → (dists.is_dist text ≡ true) ↔ IsDist text }
+    ensures split { (text : List ℕ) → dists.is_dist text ≡ true →
+        text ≡ dist_text (dist_name text) (dist_version text) (dist_build text) }
+    ensures parts { (text name version build : List ℕ) → IsSplit text name version build →
+        (dist_name text ≡ name) × (dist_version text ≡ version) × (dist_build text ≡ build) }
+{
+    cut_laws();
+}
+
 impl Dist {
     /// Reads a dist.
     pub fn read(alloc: Global, text: &str) -> Result<Dist, DistErr>
@@ -132,6 +135,7 @@ impl Dist {
         ensures exact { OnOk result (dists.is_dist text.now ≡ true) }
         ensures exact_bad { IsErrOf result DistErr.BadDist → dists.is_dist text.now ≡ false }
     {
+        dist_laws();
         if !is_dist(text) {
             return Err(DistErr::BadDist);
         }
@@ -147,14 +151,17 @@ impl Dist {
         ensures rule { IsDist self.now }
         ensures holds { dists.is_dist self.now ≡ true }
     {
+        dist_laws();
         self.text.as_str()
     }
 
     /// The name: what stands before the last two `-`. It takes no memory.
     pub fn name(&self) -> &str
         ensures name { result.now ≡ dist_name self.now }
-        ensures split { self.now ≡ joined (dist_name self.now) (dist_version self.now) (dist_build self.now) }
+        ensures split { self.now
+            ≡ dist_text (dist_name self.now) (dist_version self.now) (dist_build self.now) }
     {
+        dist_laws();
         let (front, _) = cut(self.text.as_str());
         let (name, _) = cut(front);
         name
@@ -163,8 +170,10 @@ impl Dist {
     /// The version: what stands between the last two `-`. It takes no memory.
     pub fn version(&self) -> &str
         ensures version { result.now ≡ dist_version self.now }
-        ensures split { self.now ≡ joined (dist_name self.now) (dist_version self.now) (dist_build self.now) }
+        ensures split { self.now
+            ≡ dist_text (dist_name self.now) (dist_version self.now) (dist_build self.now) }
     {
+        dist_laws();
         let (front, _) = cut(self.text.as_str());
         let (_, version) = cut(front);
         version
@@ -173,89 +182,17 @@ impl Dist {
     /// The build: what stands behind the last `-`. It takes no memory.
     pub fn build(&self) -> &str
         ensures build { result.now ≡ dist_build self.now }
-        ensures split { self.now ≡ joined (dist_name self.now) (dist_version self.now) (dist_build self.now) }
+        ensures split { self.now
+            ≡ dist_text (dist_name self.now) (dist_version self.now) (dist_build self.now) }
     {
+        dist_laws();
         let (_, build) = cut(self.text.as_str());
         build
-    }
-
-    /// An equal dist.
-    pub fn copy(&self, alloc: Global) -> Result<Dist, AllocError>
-        ensures { IfOk result (λ made. made ≡ self.now) }
-    {
-        let text = self.text.copy(alloc)?;
-        Ok(Dist { text })
     }
 }
 
 impl Copied for Dist {
-    fn copied(&self, alloc: Global) -> Result<Dist, AllocError> {
-        self.copy(alloc)
-    }
-}
-
-impl PartialEq for Dist {
-    ghost use Rattle.std.specs.Prelude.{nat_eq};
-    ghost use Rattle.std.specs.Cmp.{partial_equiv_from_equiv};
-    ghost use Rattle.std.specs.Cmp.Lexicographic.{nat_list_eq_equiv, pointwise};
-
-    ghost eq = { pointwise nat_eq };
-
-    ghost laws = { partial_equiv_from_equiv nat_list_eq_equiv };
-
-    fn eq(&self, other: &Dist) -> bool {
-        self.text == other.text
-    }
-}
-
-impl Eq for Dist {
-    ghost use Rattle.std.specs.Cmp.Lexicographic.{nat_list_eq_equiv};
-
-    ghost laws = { nat_list_eq_equiv };
-}
-
-impl Hash for Dist {
-    ghost use Rattle.std.specs.Hash as fed;
-    ghost use Rattle.std.specs.Cmp.Rules.{hashing};
-    ghost use Rattle.std.proofs.Common.{rules};
-
-    ghost hash_input = { fed.str };
-
-    ghost respects_eq = { Prim.search (hashing, rules) };
-
-    fn hash<H: Hasher>(&self, state: &mut H) {
-        self.text.hash(state)
-    }
-}
-
-impl PartialOrd for Dist {
-    ghost use Rattle.std.specs.Prelude.{Some};
-    ghost use Rattle.std.specs.Ordering.{nat_cmp};
-    ghost use Rattle.std.specs.Cmp.Lexicographic.{slice_cmp, texts_po};
-
-    ghost partial_cmp = { λ a b. Some (slice_cmp nat_cmp a b) };
-
-    ghost laws = { texts_po };
-
-    fn partial_cmp(&self, other: &Dist) -> Option<Ordering> {
-        Some(self.cmp(other))
-    }
-}
-
-impl Ord for Dist {
-    ghost use Rattle.std.specs.Prelude.{refl};
-    ghost use Rattle.std.specs.Ordering.{nat_cmp};
-    ghost use Rattle.std.specs.Cmp.Lexicographic.{nat_list_cmp_total, slice_cmp, texts_ties};
-
-    ghost cmp = { slice_cmp nat_cmp };
-
-    ghost total = { nat_list_cmp_total };
-
-    ghost matches_partial_cmp = { λ a b. refl };
-
-    ghost matches_eq = { texts_ties };
-
-    fn cmp(&self, other: &Dist) -> Ordering {
-        self.text.cmp(&other.text)
+    fn copy(&self) -> Result<Dist, AllocError> {
+        self.clone()
     }
 }

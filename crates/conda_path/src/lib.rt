@@ -10,13 +10,10 @@ mod scan;
 mod slot;
 mod values;
 
-pub use dist::Dist;
+pub use dist::{Dist, dist_laws};
 pub use error::{DistErr, PathErr};
-pub use lane::lane_of;
+pub use lane::{lane_of, trash_laws};
 pub use prefix::Prefix;
 pub use rel_path::RelPath;
 pub use slot::{SlotKey, StorePath, one_key};
 pub use values::{Digest, Good, Kind, Node};
-
-#[cfg(test)]
-mod tests;

@@ -1,13 +1,13 @@
-ghost use Rattle.std.specs.Prelude.{◌≡◌, ◌↔◌, IfOk, IfErr, OnOk, MatchResult, Some, None, true};
-ghost use Rattle.conda_path.specs.Faults.{NamesFault, HasPlace};
-ghost use Rattle.conda_path.specs.Paths.{prefix_fault, IsInside, IsPrefixFault, IsPrefix, is_inside, leads_below};
+ghost use Rattle.std.specs.Prelude.{◌≡◌, ◌↔◌, IfErr, IfOk, IfSome, OnOk, None, true};
+ghost use Rattle.conda_base.specs.Reads.{Gives};
+ghost use Rattle.conda_path.specs.Faults.{path_err_fault, prefix_read};
+ghost use Rattle.conda_path.specs.Paths.{IsInside, IsPrefix, IsPrefixFault};
+ghost use Rattle.conda_path.specs.Paths.{is_inside, leads_below, prefix_fault};
 
 use crate::error::PathErr;
 use crate::scan::{Bad, first_offence};
 use conda_base::{Copied, Text};
 use std::alloc::{AllocError, Global};
-use std::cmp::Ordering;
-use std::hash::{Hash, Hasher};
 use std::marker::Model;
 
 /// The most bytes of a prefix.
@@ -17,7 +17,7 @@ const PREFIX_LIMIT: usize = 512;
 /// This project's own rule.
 ///
 /// Contracts see it as the list of its bytes, by which prefixes are compared and hashed.
-#[derive(Debug, Drop)]
+#[derive(Clone, Debug, PartialEq, Eq, PartialOrd, Ord, Hash, Drop)]
 pub struct Prefix {
     text: Text,
 }
@@ -30,6 +30,8 @@ impl Model for Prefix {
     ghost use Rattle.conda_path.specs.Paths.{prefix_fault};
 
     ghost view = { λ p. p.text };
+
+    ghost inverse = { λ t. record { text = t } };
 
     ghost invariant = { λ p. prefix_fault p.text ≡ None };
 }
@@ -71,14 +73,15 @@ fn text_inside(text: &[u8], other: &[u8]) -> bool
 impl Prefix {
     /// Reads a prefix.
     ///
-    /// `BadPath` has 0 where the text doesn't begin with `/`, else the least offset behind it where a bad part
-    /// begins or a bad byte stands, else 512, the limit that the text is longer than.
+    /// `BadPath` has 0 where the text doesn't begin with `/`, else the least offset behind it
+    /// where a bad part begins or a bad byte stands, else 512, the limit that the text is longer
+    /// than.
     pub fn read(alloc: Global, text: &str) -> Result<Prefix, PathErr>
         ensures same { IfOk result (λ prefix. prefix ≡ text.now) }
+        ensures read { Gives path_err_fault result (prefix_read text.now) }
         ensures ok { OnOk result (IsPrefix text.now) }
-        ensures bad { IfErr result (λ e. HasPlace e (IsPrefixFault text.now)) }
+        ensures bad { IfErr result (λ e. IfSome (path_err_fault e) (IsPrefixFault text.now)) }
         ensures only { IsPrefix text.now → IfErr result (λ e. e ≡ PathErr.Memory) }
-        ensures exact { MatchResult result (λ _. prefix_fault text.now ≡ None) (λ e. NamesFault e (prefix_fault text.now)) }
     {
         if let Some(at) = fault_of(text) {
             return Err(PathErr::BadPath { at });
@@ -99,91 +102,18 @@ impl Prefix {
     }
 
     #[tactic(auto, using(crate::proofs::InsideLemmas::inside_rule))]
-    /// Whether the prefix is the other one or lies below it. `/ab` isn't inside `/a`. It takes no memory.
+    /// Whether the prefix is the other one or lies below it. `/ab` isn't inside `/a`. It takes no
+    /// memory.
     pub fn inside(&self, other: &Prefix) -> bool
         ensures rule { (result ≡ true) ↔ IsInside self.now other.now }
         ensures exact { result ≡ is_inside self.now other.now }
     {
         text_inside(self.as_str().as_bytes(), other.as_str().as_bytes())
     }
-
-    /// An equal prefix.
-    pub fn copy(&self, alloc: Global) -> Result<Prefix, AllocError>
-        ensures { IfOk result (λ made. made ≡ self.now) }
-    {
-        let text = self.text.copy(alloc)?;
-        Ok(Prefix { text })
-    }
 }
 
 impl Copied for Prefix {
-    fn copied(&self, alloc: Global) -> Result<Prefix, AllocError> {
-        self.copy(alloc)
-    }
-}
-
-impl PartialEq for Prefix {
-    ghost use Rattle.std.specs.Prelude.{nat_eq};
-    ghost use Rattle.std.specs.Cmp.{partial_equiv_from_equiv};
-    ghost use Rattle.std.specs.Cmp.Lexicographic.{nat_list_eq_equiv, pointwise};
-
-    ghost eq = { pointwise nat_eq };
-
-    ghost laws = { partial_equiv_from_equiv nat_list_eq_equiv };
-
-    fn eq(&self, other: &Prefix) -> bool {
-        self.text == other.text
-    }
-}
-
-impl Eq for Prefix {
-    ghost use Rattle.std.specs.Cmp.Lexicographic.{nat_list_eq_equiv};
-
-    ghost laws = { nat_list_eq_equiv };
-}
-
-impl Hash for Prefix {
-    ghost use Rattle.std.specs.Hash as fed;
-    ghost use Rattle.std.specs.Cmp.Rules.{hashing};
-    ghost use Rattle.std.proofs.Common.{rules};
-
-    ghost hash_input = { fed.str };
-
-    ghost respects_eq = { Prim.search (hashing, rules) };
-
-    fn hash<H: Hasher>(&self, state: &mut H) {
-        self.text.hash(state)
-    }
-}
-
-impl PartialOrd for Prefix {
-    ghost use Rattle.std.specs.Prelude.{Some};
-    ghost use Rattle.std.specs.Ordering.{nat_cmp};
-    ghost use Rattle.std.specs.Cmp.Lexicographic.{slice_cmp, texts_po};
-
-    ghost partial_cmp = { λ a b. Some (slice_cmp nat_cmp a b) };
-
-    ghost laws = { texts_po };
-
-    fn partial_cmp(&self, other: &Prefix) -> Option<Ordering> {
-        Some(self.cmp(other))
-    }
-}
-
-impl Ord for Prefix {
-    ghost use Rattle.std.specs.Prelude.{refl};
-    ghost use Rattle.std.specs.Ordering.{nat_cmp};
-    ghost use Rattle.std.specs.Cmp.Lexicographic.{nat_list_cmp_total, slice_cmp, texts_ties};
-
-    ghost cmp = { slice_cmp nat_cmp };
-
-    ghost total = { nat_list_cmp_total };
-
-    ghost matches_partial_cmp = { λ a b. refl };
-
-    ghost matches_eq = { texts_ties };
-
-    fn cmp(&self, other: &Prefix) -> Ordering {
-        self.text.cmp(&other.text)
+    fn copy(&self) -> Result<Prefix, AllocError> {
+        self.clone()
     }
 }

@@ -1,23 +1,22 @@
-ghost use Rattle.std.specs.Prelude.{◌≡◌, IfOk, IfErr, OnOk, MatchResult, Some, None};
-ghost use Rattle.conda_path.specs.Faults.{NamesFault, HasPlace};
+ghost use Rattle.std.specs.Prelude.{◌≡◌, IfErr, IfOk, IfSome, OnOk, None};
+ghost use Rattle.conda_base.specs.Reads.{Gives};
+ghost use Rattle.conda_path.specs.Faults.{path_err_fault, path_read};
 ghost use Rattle.conda_path.specs.Paths.{path_fault, IsPathFault, IsRelPath};
 
 use crate::error::PathErr;
 use crate::scan::{Bad, first_offence};
 use conda_base::{Copied, Text};
 use std::alloc::{AllocError, Global};
-use std::cmp::Ordering;
-use std::hash::{Hash, Hasher};
 use std::marker::Model;
 
 /// The most bytes of a path.
 const PATH_LIMIT: usize = 1_024;
 
-/// A path below a prefix: 1 to 1,024 bytes; its parts, split at `/`, are neither empty nor `.` nor `..`;
-/// no byte is below 32 or 127. This project's own rule.
+/// A path below a prefix: 1 to 1,024 bytes; its parts, split at `/`, are neither empty nor `.` nor
+/// `..`; no byte is below 32 or 127. This project's own rule.
 ///
 /// Contracts see it as the list of its bytes, by which paths are compared and hashed.
-#[derive(Debug, Drop)]
+#[derive(Clone, Debug, PartialEq, Eq, PartialOrd, Ord, Hash, Drop)]
 pub struct RelPath {
     text: Text,
 }
@@ -30,6 +29,8 @@ impl Model for RelPath {
     ghost use Rattle.conda_path.specs.Paths.{path_fault};
 
     ghost view = { λ p. p.text };
+
+    ghost inverse = { λ t. record { text = t } };
 
     ghost invariant = { λ p. path_fault p.text ≡ None };
 }
@@ -48,14 +49,14 @@ fn fault_of(text: &str) -> Option<usize>
 impl RelPath {
     /// Reads a path.
     ///
-    /// `BadPath` has the least offset where a bad part begins or a bad byte stands, else 1,024, the limit that the
-    /// text is longer than.
+    /// `BadPath` has the least offset where a bad part begins or a bad byte stands, else 1,024,
+    /// the limit that the text is longer than.
     pub fn read(alloc: Global, text: &str) -> Result<RelPath, PathErr>
         ensures same { IfOk result (λ path. path ≡ text.now) }
+        ensures read { Gives path_err_fault result (path_read text.now) }
         ensures ok { OnOk result (IsRelPath text.now) }
-        ensures bad { IfErr result (λ e. HasPlace e (IsPathFault text.now)) }
+        ensures bad { IfErr result (λ e. IfSome (path_err_fault e) (IsPathFault text.now)) }
         ensures only { IsRelPath text.now → IfErr result (λ e. e ≡ PathErr.Memory) }
-        ensures exact { MatchResult result (λ _. path_fault text.now ≡ None) (λ e. NamesFault e (path_fault text.now)) }
     {
         if let Some(at) = fault_of(text) {
             return Err(PathErr::BadPath { at });
@@ -74,84 +75,10 @@ impl RelPath {
     {
         self.text.as_str()
     }
-
-    /// An equal path.
-    pub fn copy(&self, alloc: Global) -> Result<RelPath, AllocError>
-        ensures { IfOk result (λ made. made ≡ self.now) }
-    {
-        let text = self.text.copy(alloc)?;
-        Ok(RelPath { text })
-    }
 }
 
 impl Copied for RelPath {
-    fn copied(&self, alloc: Global) -> Result<RelPath, AllocError> {
-        self.copy(alloc)
-    }
-}
-
-impl PartialEq for RelPath {
-    ghost use Rattle.std.specs.Prelude.{nat_eq};
-    ghost use Rattle.std.specs.Cmp.{partial_equiv_from_equiv};
-    ghost use Rattle.std.specs.Cmp.Lexicographic.{nat_list_eq_equiv, pointwise};
-
-    ghost eq = { pointwise nat_eq };
-
-    ghost laws = { partial_equiv_from_equiv nat_list_eq_equiv };
-
-    fn eq(&self, other: &RelPath) -> bool {
-        self.text == other.text
-    }
-}
-
-impl Eq for RelPath {
-    ghost use Rattle.std.specs.Cmp.Lexicographic.{nat_list_eq_equiv};
-
-    ghost laws = { nat_list_eq_equiv };
-}
-
-impl Hash for RelPath {
-    ghost use Rattle.std.specs.Hash as fed;
-    ghost use Rattle.std.specs.Cmp.Rules.{hashing};
-    ghost use Rattle.std.proofs.Common.{rules};
-
-    ghost hash_input = { fed.str };
-
-    ghost respects_eq = { Prim.search (hashing, rules) };
-
-    fn hash<H: Hasher>(&self, state: &mut H) {
-        self.text.hash(state)
-    }
-}
-
-impl PartialOrd for RelPath {
-    ghost use Rattle.std.specs.Prelude.{Some};
-    ghost use Rattle.std.specs.Ordering.{nat_cmp};
-    ghost use Rattle.std.specs.Cmp.Lexicographic.{slice_cmp, texts_po};
-
-    ghost partial_cmp = { λ a b. Some (slice_cmp nat_cmp a b) };
-
-    ghost laws = { texts_po };
-
-    fn partial_cmp(&self, other: &RelPath) -> Option<Ordering> {
-        Some(self.cmp(other))
-    }
-}
-
-impl Ord for RelPath {
-    ghost use Rattle.std.specs.Prelude.{refl};
-    ghost use Rattle.std.specs.Ordering.{nat_cmp};
-    ghost use Rattle.std.specs.Cmp.Lexicographic.{nat_list_cmp_total, slice_cmp, texts_ties};
-
-    ghost cmp = { slice_cmp nat_cmp };
-
-    ghost total = { nat_list_cmp_total };
-
-    ghost matches_partial_cmp = { λ a b. refl };
-
-    ghost matches_eq = { texts_ties };
-
-    fn cmp(&self, other: &RelPath) -> Ordering {
-        self.text.cmp(&other.text)
+    fn copy(&self) -> Result<RelPath, AllocError> {
+        self.clone()
     }
 }

@@ -1,5 +1,7 @@
 ghost use Rattle.std.specs.Prelude.{◌≡◌, ◌+◌, ◌<◌, ◌^◌, length, true};
 ghost use Rattle.std.specs.List.{before_first};
+ghost use Rattle.conda_base.specs.Signs.{slash};
+ghost use Rattle.conda_base.specs.Texts.{is_byte};
 ghost use Rattle.conda_path.specs.Paths as paths;
 ghost use Rattle.conda_path.specs.Bytes.{is_bad_of};
 
@@ -22,7 +24,7 @@ pub fn is_bad_byte(bad: Bad, byte: u8) -> bool
 
 /// Whether the part that begins here is empty, `.` or `..`.
 pub fn begins_bad_part(rest: &[u8]) -> bool
-    ensures { result ≡ paths.is_bad_part (before_first paths.is_slash rest.now) }
+    ensures { result ≡ paths.is_bad_part (before_first (is_byte slash) rest.now) }
 {
     match rest {
         [] => true,

@@ -1,4 +1,6 @@
-ghost use Rattle.std.specs.Prelude.{◌≡◌, IfOk};
+ghost use Rattle.std.specs.Prelude.{◌≡◌, fold};
+ghost use Rattle.std.specs.Hash as fed;
+ghost use Rattle.std.specs.List.{flat_map};
 ghost use Rattle.conda_path.specs.Slots.{slot_text, HasNoSlash};
 ghost use Rattle.std.specs.Ordering.{nat_cmp};
 ghost use Rattle.std.specs.Cmp.Lexicographic.{slice_cmp};
@@ -6,15 +8,16 @@ ghost use Rattle.conda_path.specs.declared.slot.SlotKey.{SlotKey};
 
 use crate::dist::Dist;
 use crate::rel_path::RelPath;
-use conda_base::{Copied, Text};
-use std::alloc::{AllocError, Global};
+use conda_base::{Copied, Text, cut_laws};
+use std::alloc::AllocError;
 use std::cmp::Ordering;
+use std::hash::{Hash, Hasher};
 
 /// A package in a channel, its folder in the cache and its slot: `<channel>/<subdir>/<dist>`.
 ///
-/// Keys are compared by the bytes of that text. A channel's name holds no `/`, and of such keys no two
-/// have one text.
-#[derive(Debug, Drop)]
+/// Keys are compared and hashed by the bytes of that text. A channel's name holds no `/`, and of
+/// such keys no two have one text.
+#[derive(Clone, Debug, Drop)]
 pub struct SlotKey {
     pub channel: Text,
     pub subdir: Text,
@@ -22,46 +25,21 @@ pub struct SlotKey {
 }
 
 /// A path in a package's folder in the cache.
-#[derive(Debug, Drop)]
+#[derive(Clone, Debug, PartialEq, Eq, PartialOrd, Ord, Hash, Drop)]
 pub struct StorePath {
     pub key: SlotKey,
     pub path: RelPath,
 }
 
-impl SlotKey {
-    /// An equal key.
-    pub fn copy(&self, alloc: Global) -> Result<SlotKey, AllocError>
-        ensures { IfOk result (λ made. made ≡ self.now) }
-    {
-        Ok(SlotKey {
-            channel: self.channel.copy(alloc)?,
-            subdir: self.subdir.copy(alloc)?,
-            dist: self.dist.copy(alloc)?,
-        })
-    }
-}
-
 impl Copied for SlotKey {
-    fn copied(&self, alloc: Global) -> Result<SlotKey, AllocError> {
-        self.copy(alloc)
-    }
-}
-
-impl StorePath {
-    /// An equal path.
-    pub fn copy(&self, alloc: Global) -> Result<StorePath, AllocError>
-        ensures { IfOk result (λ made. made ≡ self.now) }
-    {
-        Ok(StorePath {
-            key: self.key.copy(alloc)?,
-            path: self.path.copy(alloc)?,
-        })
+    fn copy(&self) -> Result<SlotKey, AllocError> {
+        self.clone()
     }
 }
 
 impl Copied for StorePath {
-    fn copied(&self, alloc: Global) -> Result<StorePath, AllocError> {
-        self.copy(alloc)
+    fn copy(&self) -> Result<StorePath, AllocError> {
+        self.clone()
     }
 }
 
@@ -93,7 +71,9 @@ fn slot_cmp(a: &SlotKey, b: &SlotKey) -> Ordering
 /// Keys whose channels and dists hold no `/` are told apart by their texts.
 pub fn one_key()
     ensures { (a b : SlotKey) → HasNoSlash a → HasNoSlash b → slot_text a ≡ slot_text b → a ≡ b }
-{}
+{
+    cut_laws();
+}
 
 impl PartialEq for SlotKey {
     ghost use Rattle.std.specs.Prelude.{nat_eq};
@@ -116,6 +96,35 @@ impl Eq for SlotKey {
     ghost use Rattle.conda_path.specs.Slots.{slot_text};
 
     ghost laws = { on_texts_equal slot_text };
+}
+
+/// Feeds bytes to a hasher, one by one.
+fn feed<H: Hasher>(state: &mut H, bytes: &[u8])
+    ensures { state.new ≡ fold H.write state.old (flat_map fed.u8 bytes.now) }
+{
+    for byte in bytes {
+        state.write_u8(*byte);
+    }
+}
+
+impl Hash for SlotKey {
+    ghost use Rattle.std.specs.Hash as fed;
+    ghost use Rattle.std.specs.Hash.{on_Alike, same_Alike};
+    ghost use Rattle.std.specs.Cmp.Lexicographic.{bytes_decides};
+    ghost use Rattle.std.specs.List.{flat_map};
+    ghost use Rattle.conda_path.specs.Slots.{slot_text};
+
+    ghost hash_input = { λ key. flat_map fed.u8 (slot_text key) };
+
+    ghost respects_eq = { (on_Alike slot_text (same_Alike (flat_map fed.u8) bytes_decides)).fed };
+
+    fn hash<H: Hasher>(&self, state: &mut H) {
+        feed(state, self.channel.as_str().as_bytes());
+        state.write_u8(b'/');
+        feed(state, self.subdir.as_str().as_bytes());
+        state.write_u8(b'/');
+        feed(state, self.dist.text().as_bytes());
+    }
 }
 
 impl PartialOrd for SlotKey {

@@ -2,6 +2,7 @@
 #![tactic(auto)]
 
 mod base;
+mod path;
 
 use conda_base::Text;
 use rows_text::{Table, print_rows};
@@ -18,6 +19,9 @@ impl Table for Values {
         arguments: &[Text],
     ) -> Result<Option<String>, AllocError> {
         if let Some(answer) = base::answer(alloc, call, arguments)? {
+            return Ok(Some(answer));
+        }
+        if let Some(answer) = path::answer(alloc, call, arguments)? {
             return Ok(Some(answer));
         }
         Ok(None)

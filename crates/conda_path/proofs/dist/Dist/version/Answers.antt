@@ -1,5 +1,4 @@
-use Rattle.conda_path.proofs.DistLemmas.{dist_split}
 use Rattle.conda_path.proofs.dist.Dist.version.Goals as goal
 
 pub returns-clause-split : goal.returns-clause-split
-returns-clause-split c = rw (← c.self.view_is) (dist_split _ c.self.invariant)
+returns-clause-split c = rw (← c.self.view_is) (c.dist_laws.ensures.split _ c.self.invariant)
