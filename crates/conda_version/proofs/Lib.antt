@@ -1,5 +1,10 @@
 pub mod TextLemmas
 pub mod SpanLemmas
+pub mod CutLemmas
 pub mod PieceLemmas
 pub mod RunLemmas
+pub mod PartLemmas
+pub mod TurnLemmas
+pub mod VersionLemmas
 pub mod OrderLemmas
+pub mod StartLemmas

@@ -8,9 +8,8 @@ use Rattle.std.specs.declared.cmp.Ordering.TheVariants.{Less, Equal, Greater}
 use Rattle.std.proofs.lemmas.Cmp.{lists_total, nat_cmp_total, on_total, then_total, tied_itself, upto}
 use Rattle.conda_version.specs.declared.run.Run.{Run}
 use Rattle.conda_version.specs.declared.run.Run.TheVariants.{Number, Post, Word}
-use Rattle.conda_version.specs.Grammar.{local_of, main_of}
-use Rattle.conda_version.specs.Order.{components_cmp, padded_cmp, run_cmp, version_cmp}
-use Rattle.conda_version.specs.Text.{plain}
+use Rattle.conda_version.specs.Grammar.{meaning}
+use Rattle.conda_version.specs.Order.{components_cmp, meaning_cmp, numbered, padded_cmp, run_cmp, version_cmp}
 
 -- A run by its rank among the kinds, its number and its text.
 rank : Run → ℕ
@@ -93,8 +92,11 @@ module _ {A : Type 0} {cmp : A → A → Ordering} (total : IsTotalOrder cmp) (p
 components_total : IsTotalOrder components_cmp
 components_total = padded_total (padded_total run_total (Number 0)) []
 
+meaning_total : IsTotalOrder meaning_cmp
+meaning_total = then_total (on_total numbered components_total) (on_total (λ v. v.local) components_total)
+
 pub version_total : IsTotalOrder version_cmp
-version_total = then_total (on_total (λ v. main_of (plain v)) components_total) (on_total (λ v. local_of (plain v)) components_total)
+version_total = on_total meaning meaning_total
 
 le_is : (o : Ordering) → is_le o ≡ true → is_gt o ≡ false
 le_is Less h = refl

@@ -6,10 +6,12 @@ use Rattle.std.proofs.lemmas.List.Splits.{slice_split_first}
 use Rattle.std.proofs.lemmas.List.Sums.{prefix_len-le-length}
 use Rattle.std.specs.Prelude.{if◌then◌else◌, not, ◌==◌}
 use Rattle.std.specs.List.{position, position_or_len, slice_split}
+use Rattle.conda_base.specs.Signs.{dot}
+use Rattle.conda_base.specs.Texts.{is_byte}
 use Rattle.conda_version.specs.Grammar.{empty_from}
 
 abbrev pub is_dot : ℕ → Bool
-is_dot b = b == 46
+is_dot = is_byte dot
 
 -- where a place was found it is the first
 pub place_is : (xs : List ℕ) (at : ℕ) → Some at ≡ position is_dot xs → (at ≡ position_or_len is_dot xs) × (at < length xs)

@@ -1,67 +1,46 @@
--- What a text means as a version, and the first fault of one that means none: conda's version.py.
+-- How a text is read as a version, and the first fault of one that is none: conda's version.py.
+-- What is read is in the grammar of versions, and the other way round: the laws of grammar say so.
 use Rattle.std.specs.Bool.{beq}
-use Rattle.std.specs.Cmp.Lexicographic.{pointwise}
-use Rattle.std.specs.Prelude.{ℕ, Bool, codes, nat_eq, true, false, not, ◌==◌, ◌&&◌, ◌||◌, ◌+◌, ◌-◌, ◌*◌, ◌≡◌, ◌≤◌, if◌then◌else◌, List, [], ◌∷◌, map, length, take, drop, fold, nat_lt, Option, None, Some, option_and_then, unwrap_or, position}
-use Rattle.std.specs.Char.{is_ascii_digit, is_ascii_lowercase}
-use Rattle.std.specs.List.{list_all, prefix_len, slice_range, slice_split}
+use Rattle.std.specs.Prelude.{ℕ, Bool, true, not, ◌==◌, ◌||◌, ◌+◌, ◌-◌, ◌≡◌, ◌≤◌, if◌then◌else◌, List, [], ◌∷◌, map, length, drop, nat_lt, Option, None, Some, IfSome, option_and_then, position}
+use Rattle.std.specs.Char.{is_ascii_digit}
+use Rattle.std.specs.List.{list_all, prefix_len, slice_split}
 use Rattle.std.specs.Option.{option_map, option_map_or, option_or}
+use Rattle.std.specs.Str.Parse.{digits_value}
+use Rattle.conda_base.specs.Numbers.{is_digits}
+use Rattle.conda_base.specs.Reads.{Read, unless}
+use Rattle.conda_base.specs.Signs.{dot, exclamation, plus}
+use Rattle.conda_base.specs.Texts.{cut_first, is_byte, is_empty}
 use Rattle.conda_version.specs.declared.error.VersionErr.{VersionErr}
 use Rattle.conda_version.specs.declared.error.VersionErr.TheVariants.{BadVersion, Memory}
 use Rattle.conda_version.specs.declared.error.VersionWhy.{VersionWhy}
 use Rattle.conda_version.specs.declared.error.VersionWhy.TheVariants.{Empty, Char, Epoch, Local, Component, Numeral}
 use Rattle.conda_version.specs.declared.run.Run.{Run}
-use Rattle.conda_version.specs.declared.run.Run.TheVariants.{Number, Post, Word}
-use Rattle.conda_version.specs.Text.{plain}
+use Rattle.conda_version.specs.Text.{plain, trimmed}
+use Rattle.conda_version.specs.Versions.{Meaning, as_dot, begins_with_digit, is_letter, main_dots, run_of, with_zero}
 
--- a digit, a small letter, or one of `.`, `_`, `+` and `!`
-abbrev pub is_plain : ℕ → Bool
-is_plain b = is_ascii_digit b || is_ascii_lowercase b || b == 46 || b == 95 || b == 43 || b == 33
+-- ---- the parts of a plain text
 
--- Where the parts of a plain text stand.
+-- the text before the first `!`, if there is one
+abbrev pub epoch_part : List ℕ → Option (List ℕ)
+epoch_part text = option_map (λ halves. halves.0) (cut_first exclamation text)
 
--- the place of the first such character at or behind a place
-abbrev pub mark_from : ℕ → ℕ → List ℕ → Option ℕ
-mark_from mark start text = option_map (λ p. start + p) (position (λ b. b == mark) (drop start text))
+-- all that stands behind the epoch
+abbrev pub behind_epoch : List ℕ → List ℕ
+behind_epoch text = option_map_or (λ halves. halves.1) (cut_first exclamation text) text
 
--- the place of the first `!`
-abbrev pub epoch_mark : List ℕ → Option ℕ
-epoch_mark text = position (λ b. b == 33) text
+-- the text before the first `+` there
+abbrev pub main_part : List ℕ → List ℕ
+main_part text = option_map_or (λ halves. halves.0) (cut_first plus (behind_epoch text)) (behind_epoch text)
 
--- where the main part begins
-abbrev pub main_start : List ℕ → ℕ
-main_start text = option_map_or (λ p. p + 1) (epoch_mark text) 0
+-- the text behind it, if there is one
+abbrev pub local_part : List ℕ → Option (List ℕ)
+local_part text = option_map (λ halves. halves.1) (cut_first plus (behind_epoch text))
 
--- the place of the first `+` behind the epoch
-abbrev pub local_mark : List ℕ → Option ℕ
-local_mark text = mark_from 43 (main_start text) text
+-- what `.` parts
+abbrev pub pieces : List ℕ → List (List ℕ)
+pieces dotted = slice_split (is_byte dot) dotted
 
--- The components.
-
--- `_` parts components as `.` does
-abbrev pub dot : ℕ → ℕ
-dot b = if b == 95 then 46 else b
-
--- each `_` but one at the very end as `.`
-abbrev pub main_dots : List ℕ → List ℕ
-main_dots [] = []
-main_dots (b ∷ []) = b ∷ []
-main_dots (b ∷ c ∷ bs) = dot b ∷ main_dots (c ∷ bs)
-
--- the main part, and its components
-abbrev pub main_text : List ℕ → List ℕ
-main_text text = main_dots (slice_range text (main_start text) (unwrap_or (local_mark text) (length text)))
-
-abbrev pub main_pieces : List ℕ → List (List ℕ)
-main_pieces text = slice_split (λ b. b == 46) (main_text text)
-
--- the local part, whose `+` stands at a place, and its components
-abbrev pub local_text : List ℕ → ℕ → List ℕ
-local_text text mark = map dot (drop (mark + 1) text)
-
-abbrev pub local_pieces : List ℕ → ℕ → List (List ℕ)
-local_pieces text mark = slice_split (λ b. b == 46) (local_text text mark)
-
--- The runs of a component.
+-- ---- the runs of a component
 
 -- a character before runs: it joins the first run where both are digits or neither is
 abbrev pub joined : ℕ → List (List ℕ) → List (List ℕ)
@@ -74,39 +53,33 @@ abbrev pub runs_of : List ℕ → List (List ℕ)
 runs_of [] = []
 runs_of (b ∷ bs) = joined b (runs_of bs)
 
--- the number that digits write
-abbrev pub number_of : List ℕ → ℕ
-number_of digits = fold (λ n d. n * 10 + (d - 48)) 0 digits
-
-abbrev pub begins_with_digit : List ℕ → Bool
-begins_with_digit [] = false
-begins_with_digit (b ∷ bs) = is_ascii_digit b
-
--- what a run means: `dev` is written `DEV`, which comes before every other text
-abbrev pub run_of : List ℕ → Run
-run_of run =
-    if begins_with_digit run then Number (number_of run)
-    else if pointwise nat_eq run (codes "post") then Post
-    else if pointwise nat_eq run (codes "dev") then Word (codes "DEV")
-    else Word run
-
--- a component that begins with no digit gets the number 0 in front
 abbrev pub component_of : List ℕ → List Run
-component_of piece = if begins_with_digit piece then map run_of (runs_of piece) else Number 0 ∷ map run_of (runs_of piece)
+component_of piece = with_zero (begins_with_digit piece) (map run_of (runs_of piece))
 
--- What a plain text means: its epoch with the components of the main part, and the components of the local part.
+abbrev pub components_of : List ℕ → List (List Run)
+components_of dotted = map component_of (pieces dotted)
+
+-- ---- what a plain text means
 
 -- the number before the `!`, which is 0 where there is none
 abbrev pub epoch_of : List ℕ → ℕ
-epoch_of text = option_map_or (λ p. number_of (take p text)) (epoch_mark text) 0
-
-abbrev pub main_of : List ℕ → List (List Run)
-main_of text = (Number (epoch_of text) ∷ []) ∷ map component_of (main_pieces text)
+epoch_of text = option_map_or (digits_value 10) (epoch_part text) 0
 
 abbrev pub local_of : List ℕ → List (List Run)
-local_of text = option_map_or (λ p. map component_of (local_pieces text p)) (local_mark text) []
+local_of text = option_map_or (λ local. components_of (map as_dot local)) (local_part text) []
 
--- The faults of a plain text, each by its place.
+abbrev pub plain_meaning : List ℕ → Meaning
+plain_meaning text = record { epoch = epoch_of text; main = components_of (main_dots (main_part text)); local = local_of text }
+
+-- ---- the faults of a plain text, each by its place
+
+-- a character of a component, or one that parts two
+abbrev pub is_part_char : ℕ → Bool
+is_part_char b = is_ascii_digit b || is_letter b || b == dot
+
+-- a digit, a small letter, or one of `.`, `_`, `+` and `!`
+abbrev pub is_plain : ℕ → Bool
+is_plain b = is_part_char b || b == plus || b == exclamation
 
 abbrev pub empty_fault : List ℕ → Option ℕ
 empty_fault text = if length text == 0 then Some 0 else None
@@ -114,27 +87,39 @@ empty_fault text = if length text == 0 then Some 0 else None
 abbrev pub char_fault : List ℕ → Option ℕ
 char_fault text = position (λ b. not (is_plain b)) text
 
--- a number: digits, at least one
-abbrev pub is_number : List ℕ → Bool
-is_number bs = nat_lt 0 (length bs) && list_all is_ascii_digit bs
+-- where the main part begins
+abbrev pub main_start : List ℕ → ℕ
+main_start text = length text - length (behind_epoch text)
 
--- a first `!` that stands behind no number, or a second one
+-- the place of the first such character in a text that begins at a place
+abbrev pub mark_from : ℕ → ℕ → List ℕ → Option ℕ
+mark_from mark at text = option_map (λ p. at + p) (position (is_byte mark) text)
+
+-- what is wrong at a first `!`: no number before it, or a second one behind it
+abbrev pub fault_at_epoch : List ℕ × List ℕ → Option ℕ
+fault_at_epoch halves = if is_digits halves.0 then mark_from exclamation (length halves.0 + 1) halves.1 else Some (length halves.0)
+
 abbrev pub epoch_fault : List ℕ → Option ℕ
-epoch_fault text = option_and_then (λ p. if is_number (take p text) then mark_from 33 (p + 1) text else Some p) (epoch_mark text)
+epoch_fault text = option_and_then fault_at_epoch (cut_first exclamation text)
 
--- a first `+` with nothing before it, or a second one
+-- what is wrong at a first `+` behind a place: nothing between, or a second one behind it
+abbrev pub fault_at_local : ℕ → List ℕ × List ℕ → Option ℕ
+fault_at_local start halves = if is_empty halves.0 then Some start else mark_from plus (start + length halves.0 + 1) halves.1
+
 abbrev pub local_fault : List ℕ → Option ℕ
-local_fault text = option_and_then (λ p. if p == main_start text then Some p else mark_from 43 (p + 1) text) (local_mark text)
+local_fault text = option_and_then (fault_at_local (main_start text)) (cut_first plus (behind_epoch text))
 
 -- where the first empty one of these components would begin, of which the first stands at a place
 abbrev pub empty_from : ℕ → List (List ℕ) → Option ℕ
 empty_from at [] = None
 empty_from at (piece ∷ pieces) = if length piece == 0 then Some at else empty_from (at + length piece + 1) pieces
 
+-- the same of a local part at the end of a text
+abbrev pub empty_local : List ℕ → List ℕ → Option ℕ
+empty_local text local = empty_from (length text - length local) (pieces (map as_dot local))
+
 abbrev pub component_fault : List ℕ → Option ℕ
-component_fault text =
-    option_or (empty_from (main_start text) (main_pieces text))
-    (option_and_then (λ p. empty_from (p + 1) (local_pieces text p)) (local_mark text))
+component_fault text = option_or (empty_from (main_start text) (pieces (main_dots (main_part text)))) (option_and_then (empty_local text) (local_part text))
 
 -- the first place from which more than 38 digits stand in a row
 abbrev pub numeral_from : ℕ → List ℕ → Option ℕ
@@ -171,11 +156,25 @@ fault text =
     (option_or (because Component (component_fault text))
     (because Numeral (numeral_from 0 text)))
 
+-- ---- texts
+
+-- what a trimmed text means
+abbrev pub meaning : List ℕ → Meaning
+meaning text = plain_meaning (plain text)
+
 -- what is wrong with a trimmed text, and where
 abbrev pub offence : List ℕ → Option (ℕ × VersionWhy)
 offence text = fault (plain text)
 
--- a refusal names what is wrong and where, and want of memory may always come
+-- the trimmed text, or what is wrong with it
+abbrev pub version_read : List ℕ → Read (List ℕ) (ℕ × VersionWhy)
+version_read text = unless (offence (trimmed text)) (trimmed text)
+
+-- the fault that an error names; want of memory names none
+abbrev pub version_fault_of : VersionErr → Option (ℕ × VersionWhy)
+version_fault_of (BadVersion at why) = Some (at, why)
+version_fault_of Memory = None
+
+-- an error names this fault, if it names any
 abbrev pub IsCause : VersionErr → Option (ℕ × VersionWhy) → Type 0
-IsCause (BadVersion at why) found = found ≡ Some (at, why)
-IsCause Memory found = Unit {0}
+IsCause error found = IfSome (version_fault_of error) (λ cause. found ≡ Some cause)

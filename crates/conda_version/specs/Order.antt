@@ -1,14 +1,15 @@
 -- The order of versions, and which version begins with which: conda's version.py.
-use Rattle.std.specs.Prelude.{ℕ, Bool, true, ◌&&◌, ◌==◌, if◌then◌else◌, List, [], ◌∷◌, length, drop, slice_index_or, nat_eq}
+use Rattle.std.specs.Prelude.{ℕ, Bool, true, ◌&&◌, if◌then◌else◌, List, [], ◌∷◌, nat_eq}
 use Rattle.std.specs.Ordering.{ordering_then, nat_cmp, is_eq}
 use Rattle.std.specs.Cmp.Lexicographic.{slice_cmp}
 use Rattle.std.specs.List.{starts_with}
+use Rattle.conda_base.specs.Texts.{is_empty}
 use Rattle.std.specs.declared.cmp.Ordering.{Ordering}
 use Rattle.std.specs.declared.cmp.Ordering.TheVariants.{Less, Equal, Greater}
 use Rattle.conda_version.specs.declared.run.Run.{Run}
 use Rattle.conda_version.specs.declared.run.Run.TheVariants.{Number, Post, Word}
-use Rattle.conda_version.specs.Text.{plain}
-use Rattle.conda_version.specs.Grammar.{main_of, local_of}
+use Rattle.conda_version.specs.Grammar.{meaning}
+use Rattle.conda_version.specs.Versions.{Meaning}
 
 -- A text is less than every number, and a number is less than `post`. Texts go by their bytes.
 abbrev pub run_cmp : Run → Run → Ordering
@@ -37,16 +38,25 @@ runs_cmp = padded_cmp run_cmp (Number 0)
 abbrev pub components_cmp : List (List Run) → List (List Run) → Ordering
 components_cmp = padded_cmp runs_cmp []
 
--- the order of two versions by their texts: epoch and main part first, then the local part
+-- the components in front of the local part, of which the epoch is the first
+abbrev pub numbered : Meaning → List (List Run)
+numbered version = (Number version.epoch ∷ []) ∷ version.main
+
+-- The order of versions: epoch and main part first. Local parts are compared where all else is equal.
+abbrev pub meaning_cmp : Meaning → Meaning → Ordering
+meaning_cmp v w = ordering_then (components_cmp (numbered v) (numbered w)) (components_cmp v.local w.local)
+
+-- the order of two versions by their texts
 abbrev pub version_cmp : List ℕ → List ℕ → Ordering
-version_cmp v w =
-    ordering_then (components_cmp (main_of (plain v)) (main_of (plain w))) (components_cmp (local_of (plain v)) (local_of (plain w)))
+version_cmp v w = meaning_cmp (meaning v) (meaning w)
 
 -- All elements of ys but the last are those of xs, which is padded at its end, and the last one begins that of xs.
 abbrev pub all_begin : {A : Type 0} → (A → A → Bool) → (A → A → Bool) → A → List A → List A → Bool
 all_begin same begins pad xs [] = true
-all_begin same begins pad xs (y ∷ []) = begins (slice_index_or xs 0 pad) y
-all_begin same begins pad xs (y ∷ z ∷ ys) = same (slice_index_or xs 0 pad) y && all_begin same begins pad (drop 1 xs) (z ∷ ys)
+all_begin same begins pad [] (y ∷ []) = begins pad y
+all_begin same begins pad (x ∷ xs) (y ∷ []) = begins x y
+all_begin same begins pad [] (y ∷ z ∷ ys) = same pad y && all_begin same begins pad [] (z ∷ ys)
+all_begin same begins pad (x ∷ xs) (y ∷ z ∷ ys) = same x y && all_begin same begins pad xs (z ∷ ys)
 
 -- equal runs, or two texts of which the first begins with the second
 abbrev pub run_starts : Run → Run → Bool
@@ -59,8 +69,12 @@ runs_start = all_begin (λ x y. is_eq (run_cmp x y)) run_starts (Number 0)
 abbrev pub components_start : List (List Run) → List (List Run) → Bool
 components_start = all_begin (λ x y. is_eq (runs_cmp x y)) runs_start []
 
--- The version x starts with y: where y has a local part, epoch and main part are equal and the local parts decide.
+-- Where y has a local part, epoch and main part are equal and the local parts decide. Else epoch and main part decide.
+abbrev pub meaning_starts : Meaning → Meaning → Bool
+meaning_starts x y =
+    if is_empty y.local then components_start (numbered x) (numbered y)
+    else is_eq (components_cmp (numbered x) (numbered y)) && components_start x.local y.local
+
+-- the version x starts with y, by their texts
 abbrev pub version_starts : List ℕ → List ℕ → Bool
-version_starts x y =
-    if length (local_of (plain y)) == 0 then components_start (main_of (plain x)) (main_of (plain y))
-    else is_eq (components_cmp (main_of (plain x)) (main_of (plain y))) && components_start (local_of (plain x)) (local_of (plain y))
+version_starts x y = meaning_starts (meaning x) (meaning y)

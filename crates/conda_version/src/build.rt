@@ -1,8 +1,11 @@
-ghost use Rattle.std.specs.Prelude.{◌≡◌, ◌≤◌, ◌<◌, ◌+◌, ◌==◌, [], ◌++◌, true, map, IfErr, IfOk, None, OnOk, length};
+ghost use Rattle.std.specs.Prelude.{◌≡◌, ◌≤◌, ◌<◌, ◌+◌, [], ◌++◌, true, map, IfErr, IfOk, None, OnOk, length};
 ghost use Rattle.std.specs.Option.{option_map};
 ghost use Rattle.std.specs.Char.{is_ascii_digit};
-ghost use Rattle.std.specs.List.{list_all, slice_split};
-ghost use Rattle.conda_version.specs.Grammar.{HasShortRuns, HasValue, IsCause, because, begins_with_digit, component_fault, component_of, epoch_fault, epoch_of, fault, local_mark, local_of, local_text, main_of, main_start, main_text, number_of, run_len, run_of};
+ghost use Rattle.std.specs.List.{list_all};
+ghost use Rattle.std.specs.Str.Parse.{digits_value};
+ghost use Rattle.conda_version.specs.Grammar.{HasShortRuns, HasValue, because, component_fault, component_of, components_of, epoch_fault, epoch_of, fault, local_part, main_part, plain_meaning, run_len, IsCause};
+ghost use Rattle.conda_version.specs.Order.{numbered};
+ghost use Rattle.conda_version.specs.Versions.{as_dot, begins_with_digit, main_dots, run_of};
 ghost use Rattle.conda_version.specs.declared.error.VersionWhy.TheVariants.{Component};
 ghost use Rattle.conda_version.specs.declared.error.VersionErr.TheVariants.{BadVersion};
 
@@ -10,15 +13,16 @@ use crate::components::Components;
 use crate::error::{VersionErr, VersionWhy};
 use crate::run::Run;
 use crate::shape::{
-    empty_from, local_dots, local_mark, main_dots, main_start, marks_fault, numeral_fault, position,
+    empty_from, epoch_part, local_dots, local_part, main_dots, main_part, main_start, marks_fault,
+    numeral_fault, position,
 };
-use conda_base::Bytes;
+use conda_base::{Bytes, cut_laws};
 use std::alloc::{AllocError, Global};
 
 fn number_of(digits: &[u8]) -> u128
     requires digits { list_all is_ascii_digit digits.now ≡ true }
     requires few { length digits.now ≤ 38 }
-    ensures { result ≡ number_of digits.now }
+    ensures { result ≡ digits_value 10 digits.now }
 {
     let mut n: u128 = 0;
     for digit in digits {
@@ -87,7 +91,7 @@ fn put_runs(alloc: Global, runs: &mut Vec<Run>, piece: &[u8]) -> Result<(), Allo
 /// Adds the components of a dotted text.
 pub fn add_components(alloc: Global, made: &mut Components, dotted: &[u8]) -> Result<(), AllocError>
     requires { HasShortRuns dotted.now }
-    ensures { OnOk result (made.new ≡ made.old ++ map component_of (slice_split (λ b. b == 46) dotted.now)) }
+    ensures { OnOk result (made.new ≡ made.old ++ components_of dotted.now) }
 {
     let mut runs = Vec::new(alloc);
     let mut left = dotted;
@@ -107,8 +111,9 @@ fn epoch_of(text: &[u8]) -> u128
     requires short { HasShortRuns text.now }
     ensures { result ≡ epoch_of text.now }
 {
-    match position(text, b'!') {
-        Some(at) => number_of(text.split_at(at).0),
+    cut_laws();
+    match epoch_part(text) {
+        Some(digits) => number_of(digits),
         None => 0,
     }
 }
@@ -120,30 +125,22 @@ struct Dotted {
     local: Option<Vec<u8>>,
 }
 
-fn main_text(alloc: Global, text: &[u8]) -> Result<Vec<u8>, AllocError>
-    ensures text { IfOk result (λ main. main.items ≡ main_text text.now) }
-    ensures len { IfOk result (λ main. main_start text.now + length main.items ≤ length text.now) }
-{
-    let end = local_mark(text).unwrap_or(text.len());
-    main_dots(alloc, &text[main_start(text)..end])
-}
-
 // The dotted parts, where they have no empty component.
 fn dots_of(alloc: Global, text: &[u8]) -> Result<Dotted, VersionErr>
-    ensures main { IfOk result (λ parts. parts.main.items ≡ main_text text.now) }
-    ensures local { IfOk result (λ parts. option_map (λ v. v.items) parts.local ≡ option_map (local_text text.now) (local_mark text.now)) }
+    ensures main { IfOk result (λ parts. parts.main.items ≡ main_dots (main_part text.now)) }
+    ensures local { IfOk result (λ parts. option_map (λ v. v.items) parts.local ≡ option_map (map as_dot) (local_part text.now)) }
     ensures good { OnOk result (component_fault text.now ≡ None) }
     ensures bad { IfErr result (λ e. IsCause e (because Component (component_fault text.now))) }
 {
-    let main = main_text(alloc, text)?;
+    let main = main_dots(alloc, main_part(text))?;
     if let Some(at) = empty_from(main_start(text), main.as_slice()) {
         return Err(component(at));
     }
-    let Some(mark) = local_mark(text) else {
+    let Some(part) = local_part(text) else {
         return Ok(Dotted { main, local: None });
     };
-    let local = local_dots(alloc, text.split_at(mark + 1).1)?;
-    if let Some(at) = empty_from(mark + 1, local.as_slice()) {
+    let local = local_dots(alloc, part)?;
+    if let Some(at) = empty_from(text.len() - part.len(), local.as_slice()) {
         return Err(component(at));
     }
     Ok(Dotted {
@@ -171,11 +168,12 @@ pub struct Parts {
 fn built(alloc: Global, text: &[u8], dotted: &Dotted) -> Result<Parts, AllocError>
     requires good { epoch_fault text.now ≡ None }
     requires short { HasShortRuns text.now }
-    requires main { dotted.now.main.items ≡ main_text text.now }
-    requires local { option_map (λ v. v.items) dotted.now.local ≡ option_map (local_text text.now) (local_mark text.now) }
-    ensures main { IfOk result (λ parts. parts.main ≡ main_of text.now) }
-    ensures local { IfOk result (λ parts. parts.local ≡ local_of text.now) }
+    requires main { dotted.now.main.items ≡ main_dots (main_part text.now) }
+    requires local { option_map (λ v. v.items) dotted.now.local ≡ option_map (map as_dot) (local_part text.now) }
+    ensures main { IfOk result (λ parts. parts.main ≡ numbered (plain_meaning text.now)) }
+    ensures local { IfOk result (λ parts. parts.local ≡ (plain_meaning text.now).local) }
 {
+    cut_laws();
     let mut runs = Vec::new(alloc);
     runs.push(Run::Number(epoch_of(text)))?;
     let mut main = Components::new(alloc);
@@ -191,8 +189,8 @@ fn built(alloc: Global, text: &[u8], dotted: &Dotted) -> Result<Parts, AllocErro
 /// Reads a plain text.
 pub fn parts_of(alloc: Global, text: &[u8]) -> Result<Parts, VersionErr>
     ensures good { OnOk result (fault text.now ≡ None) }
-    ensures main { IfOk result (λ parts. parts.main ≡ main_of text.now) }
-    ensures local { IfOk result (λ parts. parts.local ≡ local_of text.now) }
+    ensures main { IfOk result (λ parts. parts.main ≡ numbered (plain_meaning text.now)) }
+    ensures local { IfOk result (λ parts. parts.local ≡ (plain_meaning text.now).local) }
     ensures bad { IfErr result (λ e. IsCause e (fault text.now)) }
 {
     if let Some((at, why)) = marks_fault(text) {

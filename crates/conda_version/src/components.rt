@@ -1,4 +1,4 @@
-ghost use Rattle.std.specs.Prelude.{◌≡◌, [], ◌∷◌, ◌++◌, ◌<◌, IfOk, OnErr, OnOk, length, slice_index_or};
+ghost use Rattle.std.specs.Prelude.{◌≡◌, [], ◌∷◌, ◌++◌, ◌<◌, OnOk, length, slice_index_or};
 ghost use Rattle.conda_version.specs.Order.{components_cmp, components_start, runs_start};
 
 use crate::run::{Run, compare_runs, runs_start};
@@ -32,6 +32,19 @@ impl Model for Components {
     ghost view = { λ c. cut c.runs.items c.spans.items };
 
     ghost invariant = { λ c. AreSpans c.runs.items c.spans.items };
+}
+
+impl Clone for Components {
+    ghost use Rattle.std.specs.Prelude.{◌≡◌};
+
+    ghost is_clone = { λ components made. made ≡ components };
+
+    fn clone(&self) -> Result<Components, AllocError> {
+        let alloc = *self.runs.allocator();
+        let runs = copied_all(alloc, self.runs.as_slice())?;
+        let spans = self.spans.as_slice().to_vec(alloc)?;
+        Ok(Components { runs, spans })
+    }
 }
 
 impl Components {
@@ -71,15 +84,6 @@ impl Components {
         let end = self.runs.len();
         self.spans.push(Span { start, end })?;
         Ok(())
-    }
-
-    /// Equal components.
-    pub fn copy(&self, alloc: Global) -> Result<Components, AllocError>
-        ensures { IfOk result (λ c. c ≡ self.now) }
-    {
-        let runs = copied_all(alloc, self.runs.as_slice())?;
-        let spans = self.spans.as_slice().to_vec(alloc)?;
-        Ok(Components { runs, spans })
     }
 
     pub fn compare(&self, other: &Components) -> Ordering

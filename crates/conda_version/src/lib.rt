@@ -12,9 +12,6 @@ mod text;
 mod version;
 
 pub use error::{VersionErr, VersionWhy};
-pub use laws::{order_laws, trimmed_law};
+pub use laws::{grammar_laws, order_laws, trimmed_law};
 pub use text::trimmed;
 pub use version::Version;
-
-#[cfg(test)]
-mod tests;

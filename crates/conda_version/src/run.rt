@@ -1,13 +1,13 @@
-ghost use Rattle.std.specs.Prelude.{◌≡◌, IfOk, length, slice_index_or};
+ghost use Rattle.std.specs.Prelude.{◌≡◌, length, slice_index_or};
 ghost use Rattle.conda_version.specs.declared.run.Run.TheVariants.{Number};
 ghost use Rattle.conda_version.specs.Order.{run_cmp, run_starts, runs_cmp, runs_start};
 
 use conda_base::{Bytes, Copied};
-use std::alloc::{AllocError, Global};
+use std::alloc::AllocError;
 use std::cmp::Ordering;
 
 /// One run of a component.
-#[derive(Debug, Drop)]
+#[derive(Clone, Debug, Drop)]
 pub enum Run {
     Number(u128),
     /// `post`, which is greater than every number.
@@ -17,12 +17,8 @@ pub enum Run {
 }
 
 impl Copied for Run {
-    fn copied(&self, alloc: Global) -> Result<Run, AllocError> {
-        match self {
-            Run::Number(n) => Ok(Run::Number(*n)),
-            Run::Post => Ok(Run::Post),
-            Run::Word(bytes) => Ok(Run::Word(bytes.copy(alloc)?)),
-        }
+    fn copy(&self) -> Result<Run, AllocError> {
+        self.clone()
     }
 }
 

@@ -1,7 +1,8 @@
-ghost use Rattle.std.specs.Prelude.{◌≡◌, IfErr, IfOk, None, OnOk, true};
+ghost use Rattle.std.specs.Prelude.{◌≡◌, None};
 ghost use Rattle.std.specs.Ordering.{is_le, ordering_reverse};
 ghost use Rattle.std.specs.declared.cmp.Ordering.TheVariants.{Equal};
-ghost use Rattle.conda_version.specs.Grammar.{IsCause, offence};
+ghost use Rattle.conda_base.specs.Reads.{Gives};
+ghost use Rattle.conda_version.specs.Grammar.{offence, version_fault_of, version_read};
 ghost use Rattle.conda_version.specs.Order.{version_cmp, version_starts};
 ghost use Rattle.conda_version.specs.Text.{trimmed};
 
@@ -15,7 +16,7 @@ use std::cmp::Ordering;
 use std::marker::Model;
 
 /// A version. Contracts see it as its text, which has no spaces at its ends and keeps its case.
-#[derive(Debug, Drop)]
+#[derive(Clone, Debug, Drop)]
 pub struct Version {
     text: Text,
     main: Components,
@@ -24,14 +25,17 @@ pub struct Version {
 
 impl Model for Version {
     ghost use Rattle.std.specs.Prelude.{◌≡◌, List, None, ℕ};
-    ghost use Rattle.conda_version.specs.Grammar.{local_of, main_of, offence};
-    ghost use Rattle.conda_version.specs.Text.{plain, trimmed};
+    ghost use Rattle.conda_version.specs.Grammar.{meaning, offence};
+    ghost use Rattle.conda_version.specs.Order.{numbered};
+    ghost use Rattle.conda_version.specs.Text.{trimmed};
 
     ghost Value = { List ℕ };
 
     ghost view = { λ v. v.text };
 
-    ghost invariant = { λ v. (offence v.text ≡ None) × (trimmed v.text ≡ v.text) × (v.main ≡ main_of (plain v.text)) × (v.local ≡ local_of (plain v.text)) };
+    ghost inverse = { λ text. record { text = text; main = numbered (meaning text); local = (meaning text).local } };
+
+    ghost invariant = { λ v. (offence v.text ≡ None) × (trimmed v.text ≡ v.text) × (v.main ≡ numbered (meaning v.text)) × (v.local ≡ (meaning v.text).local) };
 }
 
 impl Version {
@@ -40,9 +44,7 @@ impl Version {
     ///
     /// Fails with the first fault in the order of [`VersionWhy`](crate::VersionWhy), and where memory runs out.
     pub fn read(alloc: Global, text: &str) -> Result<Version, VersionErr>
-        ensures value { IfOk result (λ v. v ≡ trimmed text.now) }
-        ensures good { OnOk result (offence (trimmed text.now) ≡ None) }
-        ensures bad { IfErr result (λ e. IsCause e (offence (trimmed text.now))) }
+        ensures { Gives version_fault_of result (version_read text.now) }
     {
         let text = trimmed(text);
         let plain = plain(alloc, text.as_bytes())?;
@@ -86,21 +88,31 @@ impl Version {
     {
         self.text.as_str()
     }
-
-    /// An equal version.
-    pub fn copy(&self, alloc: Global) -> Result<Version, AllocError>
-        ensures { IfOk result (λ v. v ≡ self.now) }
-    {
-        Ok(Version {
-            text: self.text.copy(alloc)?,
-            main: self.main.copy(alloc)?,
-            local: self.local.copy(alloc)?,
-        })
-    }
 }
 
 impl Copied for Version {
-    fn copied(&self, alloc: Global) -> Result<Version, AllocError> {
-        self.copy(alloc)
+    fn copy(&self) -> Result<Version, AllocError> {
+        self.clone()
     }
+}
+
+// Two versions are one value where their texts are one; `compare` finds more versions equal.
+impl PartialEq for Version {
+    ghost use Rattle.std.specs.Prelude.{nat_eq};
+    ghost use Rattle.std.specs.Cmp.{partial_equiv_from_equiv};
+    ghost use Rattle.std.specs.Cmp.Lexicographic.{nat_list_eq_equiv, pointwise};
+
+    ghost eq = { pointwise nat_eq };
+
+    ghost laws = { partial_equiv_from_equiv nat_list_eq_equiv };
+
+    fn eq(&self, other: &Version) -> bool {
+        self.text == other.text
+    }
+}
+
+impl Eq for Version {
+    ghost use Rattle.std.specs.Cmp.Lexicographic.{nat_list_eq_equiv};
+
+    ghost laws = { nat_list_eq_equiv };
 }

@@ -1,9 +1,9 @@
-use Rattle.std.proofs.Common.{arith}
-use Rattle.conda_version.proofs.RunLemmas.{epoch_is_digits, epoch_is_short}
+use Rattle.conda_version.proofs.CutLemmas.{cuts}
+use Rattle.conda_version.proofs.PartLemmas.{short_epoch}
 use Rattle.conda_version.proofs.build.epoch_of.Goals as goal
 
+pub number_of-requires-clause-digits : goal.number_of-requires-clause-digits
+number_of-requires-clause-digits c = (short_epoch (cuts c.cut_laws.ensures.first c.cut_laws.ensures.no_first) c.args.text.now c.in-Some.digits.now c.in-Some.ensures c.requires.good c.requires.short).0
+
 pub number_of-requires-clause-few : goal.number_of-requires-clause-few
-number_of-requires-clause-few c =
-    let text = c.args.text.now in
-    let digits = epoch_is_digits text c.in-Some.at c.in-Some.ensures c.requires.good in
-    omega (arith, c.split_at.ensures.front_len, epoch_is_short text c.in-Some.at c.requires.short (omega (arith, c.split_at.ensures.back_len)) digits)
+number_of-requires-clause-few c = (short_epoch (cuts c.cut_laws.ensures.first c.cut_laws.ensures.no_first) c.args.text.now c.in-Some.digits.now c.in-Some.ensures c.requires.good c.requires.short).1

@@ -1,6 +1,7 @@
 use Rattle.std.proofs.Common.{◌≡◌, ◌<◌, ◌∷◌, ◌++◌, [], List, ℕ, drop, length, map, take, append_assoc, arith, sym, subst, ap, ◌∙◌}
 use Rattle.std.proofs.lemmas.Bool.Decides.{nat_tests}
-use Rattle.conda_version.specs.Grammar.{HasShortRuns, HasValue, run_len, run_of, runs_of}
+use Rattle.conda_version.specs.Grammar.{HasShortRuns, HasValue, run_len, runs_of}
+use Rattle.conda_version.specs.Versions.{run_of}
 use Rattle.conda_version.proofs.RunLemmas.{first_run_value, runs_first, short_of_drop}
 use Rattle.conda_version.proofs.build.put_runs.Goals as goal
 

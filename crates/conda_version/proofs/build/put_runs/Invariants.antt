@@ -1,5 +1,6 @@
 use Rattle.std.proofs.Common.{◌≡◌, ◌++◌, length, map}
-use Rattle.conda_version.specs.Grammar.{HasShortRuns, component_of, run_of, runs_of}
+use Rattle.conda_version.specs.Grammar.{HasShortRuns, component_of, runs_of}
+use Rattle.conda_version.specs.Versions.{run_of}
 use Rattle.conda_version.proofs.build.put_runs.Given as goal
 
 abbrev pub invariant-loop-left : goal.invariant-loop-left

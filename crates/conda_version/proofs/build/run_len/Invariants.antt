@@ -2,7 +2,8 @@ use Rattle.std.proofs.Common.{◌≡◌, ◌+◌, drop}
 use Rattle.std.specs.Bool.{beq}
 use Rattle.std.specs.Char.{is_ascii_digit}
 use Rattle.std.specs.List.{prefix_len}
-use Rattle.conda_version.specs.Grammar.{begins_with_digit, run_len}
+use Rattle.conda_version.specs.Grammar.{run_len}
+use Rattle.conda_version.specs.Versions.{begins_with_digit}
 use Rattle.conda_version.proofs.build.run_len.Given as goal
 
 abbrev pub invariant-loop-at : goal.invariant-loop-at

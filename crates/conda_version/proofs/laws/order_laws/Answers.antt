@@ -1,5 +1,7 @@
+use Rattle.conda_version.proofs.CutLemmas.{cuts}
 use Rattle.std.proofs.lemmas.Cmp.{tied_itself}
 use Rattle.conda_version.proofs.OrderLemmas.{version_total, version_transitive}
+use Rattle.conda_version.proofs.VersionLemmas.{order_means, starts_means}
 use Rattle.conda_version.proofs.laws.order_laws.Goals as goal
 
 pub returns-clause-reflexive : goal.returns-clause-reflexive
@@ -13,3 +15,9 @@ returns-clause-total c = version_total.antisymm
 
 pub returns-clause-equals : goal.returns-clause-equals
 returns-clause-equals c = version_total.congr
+
+pub returns-clause-means : goal.returns-clause-means
+returns-clause-means c = order_means (cuts c.cut_laws.ensures.first c.cut_laws.ensures.no_first)
+
+pub returns-clause-starts : goal.returns-clause-starts
+returns-clause-starts c = starts_means (cuts c.cut_laws.ensures.first c.cut_laws.ensures.no_first)

@@ -1,5 +1,5 @@
 use Rattle.std.proofs.Common.{◌≡◌, ◌++◌, drop, length}
-use Rattle.conda_version.specs.Grammar.{main_dots}
+use Rattle.conda_version.specs.Versions.{main_dots}
 use Rattle.conda_version.proofs.shape.main_dots.Given as goal
 
 abbrev pub invariant-loop-at : goal.invariant-loop-at
