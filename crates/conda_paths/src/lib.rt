@@ -1,0 +1,13 @@
+//! The listing of a package's files (`info/paths.json`), and whether a file is the listed one.
+#![tactic(auto)]
+
+mod error;
+mod fields;
+mod file;
+mod listing;
+mod row;
+
+pub use error::{ListingErr, ListingWhy};
+pub use file::{check, digest};
+pub use listing::Listing;
+pub use row::{Placeholder, Row, RowKind};
