@@ -1,6 +1,6 @@
 -- The listing of a package's files, `info/paths.json`, as conda's packages have it; the tests and their order are this project's own.
 use Rattle.std.specs.Prelude.{◌≡◌, ◌≢◌, ℕ, ◌+◌, Bool, true, false, not, ◌&&◌, ◌||◌, ◌==◌, nat_eq, is_none, if◌then◌else◌, List, [], ◌∷◌, ◌++◌, length, codes, map, replicate, Option, None, Some, IfSome, unwrap_or, Result, Ok, Err}
-use Rattle.std.specs.List.{AllPairs, list_any, starts_with}
+use Rattle.std.specs.List.{AllByRecursion, list_any, starts_with}
 use Rattle.std.specs.BTreeSet.{BTreeSet, contains}
 use Rattle.std.specs.Cmp.Lexicographic.{slice_cmp}
 use Rattle.std.specs.Ordering.{nat_cmp}
@@ -28,6 +28,14 @@ use Rattle.conda_paths.specs.declared.row.RowKind.{RowKind}
 -- the bytes are those of a file of this size and digest
 abbrev pub IsListedFile : List ℕ → ℕ → Digest → Type 0
 IsListedFile bytes size digest = (length bytes ≡ size) × (sha256 bytes ≡ digest.bytes)
+
+-- the row's file, where it is one, is there and is the listed one
+abbrev pub IsGoodRow : (List ℕ → Option (List ℕ)) → Row → Type 0
+IsGoodRow files row = row.kind ≡ RowKind.Hard → (bytes : List ℕ) × (files row.path ≡ Some bytes) × IsListedFile bytes row.size row.digest
+
+-- a good folder: each file that the listing names is there with its size and digest; this project's own word
+abbrev pub IsGoodFolder : Listing → (List ℕ → Option (List ℕ)) → Type 0
+IsGoodFolder listing files = AllByRecursion (IsGoodRow files) listing.rows
 
 -- ---- how a listing is read: row by row, and the fields of a row in order
 
