@@ -50,7 +50,7 @@ one_more rows at value rest row is =
     ∙ ap (λ paths. read_on (rows ++ row ∷ []) (rows_read paths (at + 1) rest)) (sym (map-append row_path rows (row ∷ [])))
 
 -- a bad row is what is wrong with the list
-pub stopped : (rows : List Row) (at : ℕ) (value : Data) (rest : Items) (why : ListingWhy) → row_read (map row_path rows) value ≡ Err why
+pub ended : (rows : List Row) (at : ℕ) (value : Data) (rest : Items) (why : ListingWhy) → row_read (map row_path rows) value ≡ Err why
     → read_on rows (rows_read (map row_path rows) at (item value rest)) ≡ Err (at, why)
-stopped rows at value rest why is =
+ended rows at value rest why is =
     ap (λ r. read_on rows (in_row at r >>= (λ row. rows_read (map row_path rows ++ row.path ∷ []) (at + 1) rest >>= (λ more. Ok (row ∷ more))))) is

@@ -195,7 +195,7 @@ fn read_row(alloc: Global, value: &Value, paths: &mut BTreeSet<Text>) -> Result<
 }
 
 /// The rows of a list.
-#[tactic(auto, using(crate::proofs::ListingLemmas::one_more, crate::proofs::ListingLemmas::stopped))]
+#[tactic(auto, using(crate::proofs::ListingLemmas::one_more, crate::proofs::ListingLemmas::ended))]
 fn read_rows(alloc: Global, elements: &[Value]) -> Result<Rows<Row>, ListingErr>
     ensures { Gives listing_fault_of result (listings.rows_read [] 0 (items_view elements.now)) }
 {
