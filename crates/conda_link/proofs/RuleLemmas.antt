@@ -14,9 +14,9 @@ use Rattle.conda_version.specs.Text.{trimmed}
 use Rattle.conda_json.specs.Fields.{each_from, optional}
 use Rattle.conda_json.specs.Json.{inner_at, list_at}
 use Rattle.conda_json.specs.declared.optional.Null.{Null}
-use Rattle.conda_link.specs.Links.{element_entry, entries_read, entry_of, entry_read, is_command, is_name, listed_entries, made_entry, named_parts, noarch_read, parts_of}
+use Rattle.conda_link.specs.Links.{element_entry, entry_of, entry_read, is_command, is_name, listed_entries, made_entry, named_parts, noarch_read, parts_of}
 use Rattle.conda_link.specs.Places.{placed, placed_part}
-use Rattle.conda_link.specs.Rules.{AreEntries, HasEntries, IsEntry, IsLinkFile}
+use Rattle.conda_link.specs.Rules.{AreEntries, IsEntry, IsLinkFile}
 use Rattle.conda_link.specs.declared.info.EntryPoint.{EntryPoint}
 
 -- what a cut at the last such byte is, and at the first
@@ -87,12 +87,20 @@ entry_ok law text entry e =
     let made = subst (λ parts. of_parts parts ≡ Some entry) (sym (same_some (named_parts b.0.1 c.0) a.0 c.2)) a.2 in
     let t = all_true (is_command (trimmed c.0.0)) (is_name (trimmed c.0.1)) (is_name (trimmed b.0.1)) (entry_with (trimmed c.0.0) (trimmed c.0.1) (trimmed b.0.1)) entry made in
     subst (IsEntry text) t.3
-      (record {
-        command = c.0.0; source = c.0.1; func = b.0.1;
-        spelled = one.0 ∙ ap (λ front. front ++ colon ∷ b.0.1) two.0;
-        last_colon = one.1; last_equals = two.1;
-        command_is = refl; module_is = refl; func_is = refl;
-        good_command = t.0; good_module = t.1; good_func = t.2 })
+    (record {
+      command = c.0.0;
+      source = c.0.1;
+      func = b.0.1;
+      spelled = one.0 ∙ ap (λ front. front ++ colon ∷ b.0.1) two.0;
+      last_colon = one.1;
+      last_equals = two.1;
+      command_is = refl;
+      module_is = refl;
+      func_is = refl;
+      good_command = t.0;
+      good_module = t.1;
+      good_func = t.2;
+    })
 
 entry_back : LastCut → (text : List ℕ) (entry : EntryPoint) → IsEntry text entry → entry_of text ≡ Some entry
 entry_back law text entry h =
@@ -115,7 +123,7 @@ entries_ok law at (item value rest) entries e =
     let b = bound (each_from (at + 1) entry_read rest) (λ more. Ok (a.0 ∷ more)) entries a.2 in
     let text = found (as_str value) entry_of a.0 (present (element_entry value) at a.0 a.1) in
     subst (AreEntries (item value rest)) (same (a.0 ∷ b.0) entries b.2)
-      ((text.0, text.1, entry_ok law text.0 a.0 text.2), entries_ok law (at + 1) rest b.0 b.1)
+    ((text.0, text.1, entry_ok law text.0 a.0 text.2), entries_ok law (at + 1) rest b.0 b.1)
 
 entries_back : LastCut → (at : ℕ) (items : Items) (entries : List EntryPoint) → AreEntries items entries → each_from at entry_read items ≡ Ok entries
 entries_back law at no_items [] are = refl
@@ -168,8 +176,8 @@ stays_at law python path None is site scripts = refl
 stays_at law python path (Some halves) is site scripts =
     let whole = ((law slash path halves.0 halves.1).0 is).0 in
     neither (is_text halves.0 (codes "site-packages")) (is_text halves.0 (codes "python-scripts")) (codes "lib/python" ++ python ++ codes "/" ++ path) (codes "bin/" ++ halves.1) path
-      (λ t. site halves.1 (whole ∙ ap (λ first. first ++ slash ∷ halves.1) ((same_text halves.0 (codes "site-packages")).0 t)))
-      (λ t. scripts halves.1 (whole ∙ ap (λ first. first ++ slash ∷ halves.1) ((same_text halves.0 (codes "python-scripts")).0 t)))
+    (λ t. site halves.1 (whole ∙ ap (λ first. first ++ slash ∷ halves.1) ((same_text halves.0 (codes "site-packages")).0 t)))
+    (λ t. scripts halves.1 (whole ∙ ap (λ first. first ++ slash ∷ halves.1) ((same_text halves.0 (codes "python-scripts")).0 t)))
 
 pub stays : FirstCut → (python path : List ℕ) → ((rest : List ℕ) → path ≢ codes "site-packages/" ++ rest)
     → ((rest : List ℕ) → path ≢ codes "python-scripts/" ++ rest) → placed python path ≡ path

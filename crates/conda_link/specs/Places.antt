@@ -1,5 +1,5 @@
 -- Where the files of a package of Python code go, after conda's `common/path.py` and `link.py`.
-use Rattle.std.specs.Prelude.{ℕ, Bool, ◌&&◌, if◌then◌else◌, List, ◌∷◌, ◌++◌, codes, Option, None, Some, option_and_then}
+use Rattle.std.specs.Prelude.{ℕ, ◌&&◌, if◌then◌else◌, List, ◌∷◌, ◌++◌, codes, Option, None, Some, option_and_then}
 use Rattle.std.specs.Option.{option_map_or}
 use Rattle.conda_base.specs.Numbers.{is_digits}
 use Rattle.conda_base.specs.Signs.{dot, slash}

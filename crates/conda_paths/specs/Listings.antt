@@ -1,5 +1,5 @@
 -- The listing of a package's files, `info/paths.json`, as conda's packages have it; the tests and their order are this project's own.
-use Rattle.std.specs.Prelude.{◌≡◌, ◌≢◌, ℕ, ◌+◌, Bool, true, false, not, ◌&&◌, ◌||◌, ◌==◌, nat_eq, is_none, if◌then◌else◌, List, [], ◌∷◌, ◌++◌, length, codes, map, replicate, Option, None, Some, IfSome, unwrap_or, Result, Ok, Err}
+use Rattle.std.specs.Prelude.{◌≡◌, ℕ, ◌+◌, Bool, true, false, ◌==◌, nat_eq, if◌then◌else◌, List, [], ◌∷◌, ◌++◌, length, codes, replicate, Option, None, Some, unwrap_or, Ok, Err}
 use Rattle.std.specs.List.{AllByRecursion, list_any, starts_with}
 use Rattle.std.specs.BTreeSet.{BTreeSet, contains}
 use Rattle.std.specs.Cmp.Lexicographic.{slice_cmp}
@@ -19,7 +19,6 @@ use Rattle.conda_paths.specs.declared.error.ListingErr.{ListingErr}
 use Rattle.conda_paths.specs.declared.error.ListingWhy.{ListingWhy}
 use Rattle.conda_paths.specs.declared.listing.RowErr.{RowErr}
 use Rattle.conda_paths.specs.declared.listing.Listing.{Listing}
-use Rattle.conda_paths.specs.declared.row.Placeholder.{Placeholder}
 use Rattle.conda_paths.specs.declared.row.Row.{Row}
 use Rattle.conda_paths.specs.declared.row.RowKind.{RowKind}
 

@@ -1,4 +1,4 @@
-use Rattle.std.specs.Prelude.{◌≡◌, ◌+◌, ◌∷◌, [], ◌++◌, drop}
+use Rattle.std.specs.Prelude.{◌≡◌, ◌+◌, ◌∷◌, drop}
 use Rattle.std.proofs.Common.{ℕ, ◌<◌, List, length, get_or, ap, sym, ◌∙◌, add-one, drop-cons}
 use Rattle.serde_json.specs.View.{items_view, view}
 use Rattle.conda_json.specs.Fields.{each_from, read_on}

@@ -1,4 +1,4 @@
-use Rattle.std.specs.Prelude.{◌≡◌, ◌∷◌, ◌++◌, Some}
+use Rattle.std.specs.Prelude.{◌∷◌, ◌++◌, Some}
 use Rattle.std.proofs.Common.{ap, sym, ◌∙◌}
 use Rattle.std.proofs.lemmas.List.{append_cancel_right}
 use Rattle.conda_base.specs.Signs.{dot}
