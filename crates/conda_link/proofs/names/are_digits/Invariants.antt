@@ -1,0 +1,6 @@
+use Rattle.std.specs.Prelude.{◌≡◌, drop}
+use Rattle.std.specs.Str.{all_ascii_digits}
+use Rattle.conda_link.proofs.names.are_digits.Given as goal
+
+abbrev pub invariant-loop-byte : goal.invariant-loop-byte
+invariant-loop-byte l = all_ascii_digits (drop l.byte-index l.text) ≡ all_ascii_digits l.text
