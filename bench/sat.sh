@@ -4,6 +4,14 @@
 # Each program reads the same text; the times are of whole runs but for those of the questions and of the check.
 set -eu
 . "$(dirname "$0")/program.sh"
+mkdir -p "$work/crates/sat_bench/proofs/questions"
+cat > "$work/crates/sat_bench/proofs/questions/Invariants.antt" <<'PROOF'
+use Rattle.std.proofs.Common.{◌≡◌}
+use Rattle.sat_bench.proofs.questions.Given as goal
+
+abbrev pub invariant-loop-number : goal.invariant-loop-number
+invariant-loop-number l = l.solver.vars ≡ l.vars
+PROOF
 build sat_bench conda_base conda_refute conda_sat <<'PROGRAM'
 #![tactic(auto)]
 
@@ -76,14 +84,14 @@ fn main(rt: HostRuntime) -> io::Result<()> {
     let answer = solve(alloc, vars, clauses.as_slice(), &[]);
     let solved = now(&rt)?;
     match answer {
-        Ok(Answer::Model(_)) => print!(rt; "model {} ms", solved.saturating_sub(start))?,
+        Ok(Answer::Model(_sides)) => print!(rt; "model {} ms", solved.saturating_sub(start))?,
         Ok(Answer::Refuted(log)) => {
             let right = check(alloc, &log).is_ok();
             let checked = now(&rt)?.saturating_sub(solved);
             let steps = log.steps.len();
             print!(rt; "refuted {right} {} ms, {steps} steps, check {checked} ms", solved.saturating_sub(start))?;
         }
-        Err(_) => print!(rt; "no memory")?,
+        Err(_error) => print!(rt; "no memory")?,
     }
     let start = now(&rt)?;
     questions(alloc, vars, clauses.as_slice(), 1)?;

@@ -2,8 +2,8 @@
 use Rattle.std.proofs.Common.{◌≡◌, ℕ, ◌+◌, ◌-◌, ◌≤◌, ◌<◌, ◌==◌, ℤ, pos, negsuc, neg_ℤ, nat_le, zero, suc, Bool, true, false, not, ◌||◌, ◌⊎◌, inl, inr, List, [], ◌∷◌, ◌++◌, length, map, slice_get, Option, Some, None, unwrap_or, refl, sym, ap, ◌∙◌, arith, true≢false, int_eq}
 use Rattle.std.proofs.Math.IntN.{neg_ℤ-neg_ℤ}
 use Rattle.std.specs.Option.{IfNone, is_some}
-use Rattle.std.specs.List.{filter, list_all, list_any}
-use Rattle.std.proofs.lemmas.Bool.{and_parts, and_from, or_cases, or_parts, or_left, or_right, false_from_ne_true, not_from_false, not_from_true, not-false, ne_eqb, leb-true, le-leb}
+use Rattle.std.specs.List.{list_all, list_any}
+use Rattle.std.proofs.lemmas.Bool.{and_parts, and_from, or_cases, or_parts, or_left, or_right, false_from_ne_true, not_from_false, not-false, ne_eqb, leb-true, le-leb}
 use Rattle.std.proofs.lemmas.Bool.Decides.{Decides-int_eq}
 use Rattle.std.proofs.lemmas.List.{length-append}
 use Rattle.std.proofs.lemmas.List.Folds.{list_all-append, list_any-append}
@@ -12,7 +12,7 @@ use Rattle.conda_refute.specs.Literals.{clause_true, has, literal_true}
 use Rattle.conda_refute.specs.Refutation.{by_clause, by_left, clauses_of, follows, has_opposites, hints_end, named, not_false}
 use Rattle.conda_refute.specs.declared.log.Log.{Log}
 use Rattle.conda_refute.specs.declared.log.Step.{Step}
-use Rattle.conda_sat.specs.Answers.{AreDecided, AreSidesOf, EndsWith, Extends, IsDenied, IsFalseAt, Satisfies, denies, is_within, literal_at, opposites, side_of, variable_of}
+use Rattle.conda_sat.specs.Answers.{AreDecided, AreSidesOf, EndsWith, Extends, IsDenied, denies, is_within, literal_at, opposites, side_of}
 use Rattle.conda_sat.proofs.SidesLemmas.{all_at, denied_by, get_true}
 
 -- ---- lists of literals

@@ -1,5 +1,5 @@
 -- One more step of a log.
-use Rattle.std.proofs.Common.{◌≡◌, ℤ, Bool, true, List, [], ◌∷◌, ◌++◌, refl, sym, ap, ◌∙◌, map}
+use Rattle.std.proofs.Common.{◌≡◌, ℤ, true, List, [], ◌∷◌, ◌++◌, refl, sym, ap, ◌∙◌, map}
 use Rattle.std.proofs.lemmas.Bool.{and_parts, and_from}
 use Rattle.conda_refute.specs.Refutation.{all_follow, clauses_of, follows}
 use Rattle.conda_refute.specs.declared.log.Step.{Step}

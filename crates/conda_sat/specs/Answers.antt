@@ -7,7 +7,6 @@ use Rattle.conda_refute.specs.declared.log.Step.{Step}
 use Rattle.conda_sat.specs.declared.verdict.Verdict.{Verdict}
 use Rattle.conda_sat.specs.declared.verdict.Verdict.TheVariants.{Model, Denied}
 use Rattle.conda_sat.specs.declared.verdict.Answer.{Answer}
-use Rattle.conda_sat.specs.declared.verdict.Answer.TheVariants as Answer
 
 -- clauses over some variables, and the steps that were learned from them
 pub record Question : Type 0 where

@@ -3,7 +3,7 @@ ghost use Rattle.std.specs.List.{list_all};
 ghost use Rattle.conda_sat.specs.Answers.{is_within};
 
 use conda_base::Text;
-use conda_refute::{Clause, check};
+use conda_refute::{Clause, Log, check};
 use conda_sat::{Answer, Solver, Verdict, clauses_are_within, literals_are_within, solve};
 use std::alloc::{AllocError, Global};
 
@@ -100,10 +100,8 @@ fn asked_once(
 ) -> Result<Option<String>, AllocError> {
     let clauses = clauses_of(alloc, clauses.as_str())?;
     let word = match solved(alloc, vars, clauses.as_slice(), order)? {
-        Some(Answer::Model(sides)) if are_true(sides.as_slice(), clauses.as_slice()) => "model",
-        Some(Answer::Model(_)) => "model that is false",
-        Some(Answer::Refuted(log)) if check(alloc, &log).is_ok() => "refuted",
-        Some(Answer::Refuted(_)) => "refutation that is refused",
+        Some(Answer::Model(sides)) => model_word(sides.as_slice(), clauses.as_slice(), &[]),
+        Some(Answer::Refuted(log)) => refuted_word(alloc, &log),
         None => return Ok(None),
     };
     Ok(Some(String::from_str(alloc, word)?))
@@ -130,7 +128,7 @@ fn sides(
     Ok(Some(text))
 }
 
-/// How many steps and inputs the refutation has, in their lengths' orders of ten: `below 1000 of 44` for fewer than 1,000 steps.
+/// Whether the refutation has fewer than 1,000 steps, and how many inputs it has.
 fn steps(
     alloc: Global,
     vars: &Text,
@@ -190,4 +188,11 @@ fn model_word(sides: &[bool], clauses: &[Clause], assumed: &[i32]) -> &'static s
         all = all && is_true(sides, *literal);
     }
     if all { "model" } else { "model that is false" }
+}
+
+fn refuted_word(alloc: Global, log: &Log) -> &'static str {
+    match check(alloc, log) {
+        Ok(()) => "refuted",
+        Err(_) => "refutation that is refused",
+    }
 }

@@ -1,6 +1,5 @@
 use Rattle.std.proofs.Common.{[], true, false, arith, ap, sym, ◌∙◌, Some}
 use Rattle.std.proofs.lemmas.List.{append-nil}
-use Rattle.conda_refute.specs.Refutation.{clauses_of, named}
 use Rattle.conda_sat.specs.Answers.{opposites}
 use Rattle.conda_sat.proofs.CasesLemmas.{decided-side, last_named, none_left_of}
 use Rattle.conda_sat.proofs.cases.+by_cases.Goals as goal
