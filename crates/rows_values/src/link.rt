@@ -34,7 +34,11 @@ fn shown(alloc: Global, read: Result<LinkInfo, LinkErr>) -> Result<String, Alloc
     };
     let mut text = format!(in alloc; "{} entries", info.entries.len())?;
     for entry in info.entries.as_slice() {
-        let EntryPoint { command, module, func } = entry;
+        let EntryPoint {
+            command,
+            module,
+            func,
+        } = entry;
         let shown = format!(in alloc;
             "; <{}> <{}> <{}>",
             command.as_str(),

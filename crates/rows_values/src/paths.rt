@@ -56,7 +56,11 @@ fn shown_row(alloc: Global, row: &Row) -> Result<String, AllocError> {
     let digest = hex::encode(alloc, row.digest.bytes)?;
     let mut text = format!(in alloc; "{kind} {} {} {digest}", row.path.as_str(), row.size)?;
     if let Some(placeholder) = &row.placeholder {
-        text.push_str(if placeholder.binary { " binary " } else { " text " })?;
+        text.push_str(if placeholder.binary {
+            " binary "
+        } else {
+            " text "
+        })?;
         text.push_str(placeholder.text.as_str())?;
     }
     if row.no_link {
