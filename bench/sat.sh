@@ -1,6 +1,6 @@
 #!/bin/sh
 # Times `solve`, 100 questions to one `Solver`, and `check` of the refutation, beside minisat and cadical where they are installed: chains of
-# implications and ladders of at-most-one of 1,000 to 100,000 variables, pigeonholes, and random clauses of three literals.
+# implications of 1,000 to 100,000 variables, ladders of at-most-one of 1,000 and 10,000, pigeonholes, and random clauses of three literals.
 # Each program reads the same text; the times are of whole runs but for those of the questions and of the check.
 set -eu
 . "$(dirname "$0")/program.sh"
@@ -135,7 +135,9 @@ took() {
 
 row() {
     name=$1
-    awk '{ for (i = 1; i < NF; i++) { v = $i < 0 ? -$i : $i; if (v > m) m = v } text = text $0 "\n"; c++ } END { printf "p cnf %d %d\n%s", m, c, text }' > "$work/$name.cnf"
+    cat > "$work/plain"
+    awk '{ for (i = 1; i < NF; i++) { v = $i < 0 ? -$i : $i; if (v > m) m = v } } END { print "p cnf", m, NR }' "$work/plain" > "$work/$name.cnf"
+    cat "$work/plain" >> "$work/$name.cnf"
     own=$(took "$program" < "$work/$name.cnf")
     said=$(cat "$work/said")
     others=
@@ -147,7 +149,7 @@ row() {
 
 for n in 1000 10000 100000; do
     chain $n | row chain$n
-    ladder $n | row ladder$n
+    if [ $n -le 10000 ]; then ladder $n | row ladder$n; fi
 done
 for h in 6 7 8; do pigeons $h | row pigeons$h; done
 for n in 100 150 200; do
