@@ -5,9 +5,7 @@ mod base;
 mod clause;
 mod history;
 mod json;
-mod link;
 mod path;
-mod paths;
 mod prefix;
 mod spec;
 mod version;
@@ -51,13 +49,7 @@ impl Table for Values {
         if let Some(answer) = json::answer(alloc, call, arguments)? {
             return Ok(Some(answer));
         }
-        if let Some(answer) = prefix::answer(alloc, call, arguments)? {
-            return Ok(Some(answer));
-        }
-        if let Some(answer) = paths::answer(alloc, call, arguments)? {
-            return Ok(Some(answer));
-        }
-        link::answer(alloc, call, arguments)
+        prefix::answer(alloc, call, arguments)
     }
 }
 
