@@ -2,14 +2,10 @@
 #![tactic(auto)]
 
 mod base;
-mod clause;
-mod history;
 mod json;
 mod path;
 mod prefix;
-mod spec;
 mod version;
-mod words;
 
 use conda_base::Text;
 use rows_text::{Table, print_rows};
@@ -32,18 +28,6 @@ impl Table for Values {
             return Ok(Some(answer));
         }
         if let Some(answer) = version::answer(alloc, call, arguments)? {
-            return Ok(Some(answer));
-        }
-        if let Some(answer) = clause::answer(alloc, call, arguments)? {
-            return Ok(Some(answer));
-        }
-        if let Some(answer) = spec::answer(alloc, call, arguments)? {
-            return Ok(Some(answer));
-        }
-        if let Some(answer) = words::answer(alloc, call, arguments)? {
-            return Ok(Some(answer));
-        }
-        if let Some(answer) = history::answer(alloc, call, arguments)? {
             return Ok(Some(answer));
         }
         if let Some(answer) = json::answer(alloc, call, arguments)? {
