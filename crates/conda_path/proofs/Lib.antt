@@ -3,3 +3,4 @@ pub mod DistLemmas
 pub mod SlotLemmas
 pub mod LaneLemmas
 pub mod InsideLemmas
+pub mod FileLemmas

@@ -1,9 +1,10 @@
 -- Dists: the names of packages, `name-version-build`, as conda's dist.py splits them at the last two dashes.
 -- Which bytes they hold is this project's own rule.
-use Rattle.std.specs.Prelude.{◌≡◌, ◌≢◌, ℕ, ◌≤◌, Bool, false, ◌&&◌, ◌||◌, ◌==◌, nat_le, nat_eq, not, List, [], ◌∷◌, ◌++◌, length, codes}
-use Rattle.std.specs.List.{AllByRecursion, after_last, before_last, ends_with, list_any}
+use Rattle.std.specs.Prelude.{◌≡◌, ◌≢◌, ℕ, ◌≤◌, Bool, false, ◌&&◌, ◌||◌, ◌==◌, nat_le, not, is_some, List, [], ◌∷◌, ◌++◌, length}
+use Rattle.std.specs.List.{AllByRecursion, after_last, before_last, list_any}
 use Rattle.conda_base.specs.Signs.{colon, dash, equals, hash, plus, slash}
 use Rattle.conda_base.specs.Texts.{IsFreeOf, is_byte, is_empty}
+use Rattle.conda_path.specs.Files.{cut_ending}
 use Rattle.conda_path.specs.Paths.{is_control_or_space}
 
 -- no dist holds such a byte: a control byte, a space, `/` or `:`
@@ -21,7 +22,7 @@ begins_badly (b ∷ rest) = is_bad_front b
 
 -- the text is that of a package file
 abbrev pub names_file : List ℕ → Bool
-names_file text = ends_with nat_eq text (codes ".tar.bz2") || ends_with nat_eq text (codes ".conda")
+names_file text = is_some (cut_ending text)
 
 -- ---- the rule
 

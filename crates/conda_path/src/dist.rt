@@ -7,6 +7,7 @@ ghost use Rattle.conda_path.specs.Dists.{dist_build, dist_name, dist_text, dist_
 ghost use Rattle.conda_path.specs.Dists.{IsDist, IsSplit};
 
 use crate::error::DistErr;
+use crate::file::cut_ending;
 use crate::scan::{self, Bad};
 use conda_base::{Copied, Text, cut_last, cut_laws};
 use std::alloc::{AllocError, Global};
@@ -81,10 +82,10 @@ fn has_parts(text: &str) -> bool
 }
 
 /// Whether the text is that of a package file.
-fn names_file(text: &[u8]) -> bool
+fn names_file(text: &str) -> bool
     ensures { result ≡ dists.names_file text.now }
 {
-    text.ends_with(b".tar.bz2") || text.ends_with(b".conda")
+    cut_ending(text).is_some()
 }
 
 /// Whether a byte of the text is one that no dist holds.
@@ -108,7 +109,7 @@ fn is_dist(text: &str) -> bool
     if holds_bad_byte(bytes) {
         return false;
     }
-    if names_file(bytes) {
+    if names_file(text) {
         return false;
     }
     has_parts(text)

@@ -3,6 +3,7 @@
 
 mod dist;
 mod error;
+mod file;
 mod lane;
 mod prefix;
 mod rel_path;
@@ -12,8 +13,9 @@ mod values;
 
 pub use dist::{Dist, dist_laws};
 pub use error::{DistErr, PathErr};
+pub use file::{cut_ending, ending_laws};
 pub use lane::{lane_of, trash_laws};
 pub use prefix::Prefix;
-pub use rel_path::RelPath;
+pub use rel_path::{RelPath, path_laws};
 pub use slot::{SlotKey, StorePath, one_key};
 pub use values::{Digest, Good, Kind, Node};

@@ -1,4 +1,4 @@
-ghost use Rattle.std.specs.Prelude.{◌≡◌, IfErr, IfOk, IfSome, OnOk, None};
+ghost use Rattle.std.specs.Prelude.{◌≡◌, ◌↔◌, ℕ, List, IfErr, IfOk, IfSome, OnOk, None, Some};
 ghost use Rattle.conda_base.specs.Reads.{Gives};
 ghost use Rattle.conda_path.specs.Faults.{path_err_fault, path_read};
 ghost use Rattle.conda_path.specs.Paths.{path_fault, IsPathFault, IsRelPath};
@@ -45,6 +45,12 @@ fn fault_of(text: &str) -> Option<usize>
         None => None,
     }
 }
+
+/// The place that is read of a text is none exactly where the text is a path, and else its fault.
+pub fn path_laws()
+    ensures rule { (text : List ℕ) → (path_fault text ≡ None) ↔ IsRelPath text }
+    ensures place { (text : List ℕ) (at : ℕ) → path_fault text ≡ Some at → IsPathFault text at }
+{}
 
 impl RelPath {
     /// Reads a path.
