@@ -1,6 +1,7 @@
 -- The link file of a package, `info/link.json`, as conda's packages have it; the tests are this project's own.
-use Rattle.std.specs.Prelude.{ℕ, Bool, true, not, ◌&&◌, ◌||◌, ◌==◌, is_none, if◌then◌else◌, List, [], ◌∷◌, codes, Option, None, Some, option_and_then, Ok, Err}
+use Rattle.std.specs.Prelude.{ℕ, Bool, not, ◌&&◌, ◌||◌, ◌==◌, is_none, if◌then◌else◌, List, [], codes, Option, None, Some, option_and_then, Ok, Err}
 use Rattle.std.specs.Char.{is_ascii_alphanumeric}
+use Rattle.std.specs.List.{list_all}
 use Rattle.std.specs.Option.{ok_or}
 use Rattle.std.specs.Result.{is_ok}
 use Rattle.serde_json.specs.Data.{Data, Items}
@@ -24,13 +25,9 @@ use Rattle.conda_link.specs.declared.info.LinkInfo.{LinkInfo}
 abbrev pub is_name_byte : ℕ → Bool
 is_name_byte b = is_ascii_alphanumeric b || b == underscore || b == dot
 
-abbrev pub are_name_bytes : List ℕ → Bool
-are_name_bytes [] = true
-are_name_bytes (b ∷ rest) = is_name_byte b && are_name_bytes rest
-
 -- what names a module or a function
 abbrev pub is_name : List ℕ → Bool
-is_name text = not (is_empty text) && are_name_bytes text
+is_name text = not (is_empty text) && list_all is_name_byte text
 
 -- one part of a path
 abbrev pub is_command : List ℕ → Bool

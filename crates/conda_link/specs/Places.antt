@@ -1,5 +1,5 @@
 -- Where the files of a package of Python code go, after conda's `common/path.py` and `link.py`.
-use Rattle.std.specs.Prelude.{ℕ, ◌&&◌, if◌then◌else◌, List, ◌∷◌, ◌++◌, codes, Option, None, Some, option_and_then}
+use Rattle.std.specs.Prelude.{◌≡◌, ℕ, ◌&&◌, if◌then◌else◌, List, ◌∷◌, ◌++◌, codes, Option, None, Some, option_and_then}
 use Rattle.std.specs.Option.{option_map_or}
 use Rattle.conda_base.specs.Numbers.{is_digits}
 use Rattle.conda_base.specs.Signs.{dot, slash}
@@ -28,3 +28,7 @@ with_second first rest (Some halves) = digit_parts first halves.0
 -- the first two dotted parts of a version, where they are digits
 abbrev pub python_parts : List ℕ → Option (List ℕ)
 python_parts text = option_and_then (λ halves. with_second halves.0 halves.1 (cut_first dot halves.1)) (cut_first dot text)
+
+-- the first two dotted parts of some version
+abbrev pub IsPython : List ℕ → Type 0
+IsPython python = (version : List ℕ) × (python_parts version ≡ Some python)

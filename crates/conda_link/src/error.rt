@@ -8,7 +8,7 @@ pub enum LinkErr {
     /// The first bad entry point, from 0; 0 where the file itself has another form.
     #[error("bad link file at entry {entry}")]
     BadLink { entry: u64 },
-    /// The new path is longer than 1,024 bytes.
+    /// The new place is no path: it is longer than 1,024 bytes.
     #[error("bad path")]
     BadPath,
     /// There was no memory for the answer.

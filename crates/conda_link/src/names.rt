@@ -1,4 +1,5 @@
 ghost use Rattle.std.specs.Prelude.{◌≡◌, IfOk};
+ghost use Rattle.std.specs.List.{list_all};
 ghost use Rattle.std.specs.Str.{all_ascii_digits};
 ghost use Rattle.conda_base.specs.Numbers as numbers;
 ghost use Rattle.conda_link.specs.Links as links;
@@ -16,14 +17,9 @@ fn is_name_byte(byte: u8) -> bool
 
 /// Whether each byte is a letter, a digit, `_` or `.`.
 fn are_name_bytes(text: &[u8]) -> bool
-    ensures { result ≡ links.are_name_bytes text.now }
+    ensures { result ≡ list_all links.is_name_byte text.now }
 {
-    for byte in text {
-        if !is_name_byte(*byte) {
-            return false;
-        }
-    }
-    true
+    text.iter().all(|byte| is_name_byte(*byte))
 }
 
 /// Whether a text names a module or a function.

@@ -1,8 +1,8 @@
-ghost use Rattle.std.specs.Prelude.{◌≡◌, ◌++◌, ◌∷◌, ◌⊎◌, List, ℕ, IfErr, IfOk, IsErrOf, OnOk};
-ghost use Rattle.std.specs.Prelude.{MatchOption, None, Some, string_bytes};
+ghost use Rattle.std.specs.Prelude.{◌≡◌, ◌<◌, ◌++◌, ◌∷◌, ◌⊎◌, List, ℕ, IfErr, IfOk, IsErrOf, OnOk};
+ghost use Rattle.std.specs.Prelude.{MatchOption, None, Some, length, string_bytes};
 ghost use Rattle.conda_base.specs.Signs.{dot};
 ghost use Rattle.conda_path.specs.Paths.{IsRelPath};
-ghost use Rattle.conda_link.specs.Places.{placed, python_parts};
+ghost use Rattle.conda_link.specs.Places.{IsPython, placed, python_parts};
 ghost use Rattle.conda_link.specs.declared.error.LinkErr.{LinkErr};
 
 use crate::error::LinkErr;
@@ -37,13 +37,16 @@ fn placed_text(alloc: Global, path: &str, python: &str) -> Result<String, AllocE
 /// to `lib/pythonX.Y/site-packages/..`, from `python-scripts/..` to `bin/..`; other paths stay
 /// (conda's `common/path.py`).
 ///
-/// `BadPath` where that is no path.
+/// `BadPath` where that is no path; for the X.Y of a version it is then longer than 1,024 bytes.
 pub fn place(alloc: Global, path: &RelPath, python: &str) -> Result<RelPath, LinkErr>
     ensures placed { IfOk result (λ new. new ≡ placed python.now path.now) }
     ensures ok { OnOk result (IsRelPath (placed python.now path.now)) }
     ensures bad { IsErrOf result LinkErr.BadPath → ¬ IsRelPath (placed python.now path.now) }
+    ensures long { IsErrOf result LinkErr.BadPath → IsPython python.now →
+        1024 < length (placed python.now path.now) }
     ensures err { IfErr result (λ e. (e ≡ LinkErr.BadPath) ⊎ (e ≡ LinkErr.Memory)) }
 {
+    cut_laws();
     let text = placed_text(alloc, path.as_str(), python)?;
     match RelPath::read(alloc, text.as_str()) {
         Ok(path) => Ok(path),

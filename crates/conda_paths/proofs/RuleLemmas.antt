@@ -12,7 +12,7 @@ use Rattle.std.specs.List.{AllByRecursion, IsDistinct, list_any}
 use Rattle.std.specs.Option.{ok_or, option_map_or}
 use Rattle.serde_json.specs.Data.{Data, Items, no_items, item}
 use Rattle.hex.specs.Hex.{decode_sized}
-use Rattle.conda_base.specs.Reads.{Read, ◌>>=◌, unless}
+use Rattle.conda_base.specs.Reads.{Read, ◌>>=◌}
 use Rattle.conda_base.specs.Texts.{is_text}
 use Rattle.conda_path.specs.Faults.{path_read}
 use Rattle.conda_path.specs.Paths.{path_fault}

@@ -10,6 +10,6 @@ mod row;
 
 pub use error::{ListingErr, ListingWhy};
 pub use file::{check, digest};
-pub use laws::{folder_laws, listing_laws};
+pub use laws::listing_laws;
 pub use listing::Listing;
 pub use row::{Placeholder, Row, RowKind};

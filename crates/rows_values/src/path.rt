@@ -1,5 +1,5 @@
 use conda_base::{Copied, Text};
-use conda_path::{Dist, DistErr, PathErr, Prefix, RelPath, SlotKey, lane_of};
+use conda_path::{Dist, DistErr, PathErr, Prefix, RelPath, SlotKey, cut_ending, lane_of};
 use std::alloc::{AllocError, Global};
 use std::cmp::Ordering;
 
@@ -10,6 +10,7 @@ pub fn answer(alloc: Global, call: &str, arguments: &[Text]) -> Result<Option<St
         ("prefix", [text]) => prefix(alloc, text.as_str()),
         ("inside", [text, other]) => inside(alloc, text.as_str(), other.as_str()),
         ("dist", [text]) => dist(alloc, text.as_str()),
+        ("ending", [text]) => ending(alloc, text.as_str()),
         ("lane", [text]) => lane(alloc, text.as_str()),
         ("key.order", [left, right]) => key_order(alloc, left.as_str(), right.as_str()),
         _ => Ok(None),
@@ -67,6 +68,14 @@ fn dist(alloc: Global, text: &str) -> Result<Option<String>, AllocError> {
         }
         Err(DistErr::BadDist) => word(alloc, "bad"),
         Err(DistErr::Memory) => Err(AllocError),
+    }
+}
+
+/// What stands before the ending of a package file.
+fn ending(alloc: Global, text: &str) -> Result<Option<String>, AllocError> {
+    match cut_ending(text) {
+        Some(stem) => Ok(Some(format!(in alloc; "behind {stem}")?)),
+        None => word(alloc, "none"),
     }
 }
 
