@@ -1,5 +1,6 @@
 pub mod KeptLemmas
 pub mod PlaceLemmas
+pub mod SpaceLemmas
 pub mod GlobLemmas
 pub mod TestLemmas
 pub mod PieceLemmas

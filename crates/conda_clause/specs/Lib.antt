@@ -1,4 +1,5 @@
 pub mod Kept
+pub mod Spaces
 pub mod Glob
 pub mod Tests
 pub mod Pieces
