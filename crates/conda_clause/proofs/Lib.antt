@@ -6,6 +6,8 @@ pub mod TestLemmas
 pub mod PieceLemmas
 pub mod ClauseLemmas
 pub mod BesideLemmas
+pub mod BuildLemmas
+pub mod AlikeLemmas
 pub mod FaultLemmas
 pub mod EndLemmas
 pub mod GrammarLemmas

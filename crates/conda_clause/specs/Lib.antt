@@ -6,4 +6,5 @@ pub mod Pieces
 pub mod Clause
 pub mod Tree
 pub mod Truth
+pub mod Beside
 pub mod Faults
