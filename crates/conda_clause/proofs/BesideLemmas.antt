@@ -12,7 +12,7 @@ use Rattle.conda_clause.specs.declared.test.Test.{Test}
 use Rattle.conda_clause.specs.declared.test.Test.TheVariants.{Any, Starts}
 use Rattle.conda_clause.specs.declared.token.Token.{Token}
 use Rattle.conda_clause.specs.declared.token.Token.TheVariants as token
-use Rattle.conda_clause.specs.Clause.{beside_build, clause_fault, is_single, starred, starred_test}
+use Rattle.conda_clause.specs.Clause.{beside_build, clause_fault, is_single, tokens_beside_build, test_beside_build}
 use Rattle.conda_clause.specs.Pieces.{pieces, tokens}
 use Rattle.conda_clause.specs.Tests.{IsFaultless, IsTest, sign_of, test_of, test_texts}
 use Rattle.conda_clause.specs.Tree.Tree.{part, single, test as alone}
@@ -85,13 +85,13 @@ only_version text v good lower e =
     (is.0, all_lower v (starts_lower text v is (lower_all text lower)))
 
 -- The clause beside a build is one, in lower case, of the same tokens, and stays what it is.
-pub record IsBeside (text : List ℕ) : Type 0 where
+pub record IsSoundBeside (text : List ℕ) : Type 0 where
   pub good : clause_fault (beside_build text) ≡ None
   pub lower : map to_ascii_lowercase (beside_build text) ≡ beside_build text
   pub same : tokens (beside_build text) ≡ tokens text
   pub fixed : beside_build (beside_build text) ≡ beside_build text
 
-stays : (text : List ℕ) → clause_fault text ≡ None → map to_ascii_lowercase text ≡ text → beside_build text ≡ text → IsBeside text
+stays : (text : List ℕ) → clause_fault text ≡ None → map to_ascii_lowercase text ≡ text → beside_build text ≡ text → IsSoundBeside text
 stays text good lower e = record {
   good = ap clause_fault e ∙ good;
   lower = ap (map to_ascii_lowercase) e ∙ lower ∙ sym e;
@@ -100,7 +100,7 @@ stays text good lower e = record {
 }
 
 turns : (text to : List ℕ) (test : Test) → beside_build text ≡ to → IsOneTest to test → map to_ascii_lowercase to ≡ to → beside_build to ≡ to
-    → tokens text ≡ token.Test test ∷ [] → IsBeside text
+    → tokens text ≡ token.Test test ∷ [] → IsSoundBeside text
 turns text to test e one lower fixed is = record {
   good = ap clause_fault e ∙ one.good;
   lower = ap (map to_ascii_lowercase) e ∙ lower ∙ sym e;
@@ -110,10 +110,10 @@ turns text to test e one lower fixed is = record {
 
 star_fixed : (v : List ℕ) → IsFaultless v → beside_build (v ++ codes ".*") ≡ v ++ codes ".*"
 star_fixed v h =
-    ap (λ s. if is_single s then starred (v ++ codes ".*") (tokens (v ++ codes ".*")) else v ++ codes ".*") (plain_sign (v ++ codes ".*") (ended_beside dot_star v h))
+    ap (λ s. if is_single s then tokens_beside_build (v ++ codes ".*") (tokens (v ++ codes ".*")) else v ++ codes ".*") (plain_sign (v ++ codes ".*") (ended_beside dot_star v h))
 
-by_test : (law : NoDotEnd) (text : List ℕ) (test : Test) → clause_fault text ≡ None → map to_ascii_lowercase text ≡ text → beside_build text ≡ starred_test text test
-    → tokens text ≡ token.Test test ∷ [] → IsBeside text
+by_test : (law : NoDotEnd) (text : List ℕ) (test : Test) → clause_fault text ≡ None → map to_ascii_lowercase text ≡ text → beside_build text ≡ test_beside_build text test
+    → tokens text ≡ token.Test test ∷ [] → IsSoundBeside text
 by_test law text (Starts v) good lower e is =
     let version = only_version text v good lower is in
     turns text (v ++ codes ".*") (Starts v) e (one_test law (v ++ codes ".*") (Starts v) (form law Plain dot_star v version.0))
@@ -121,13 +121,13 @@ by_test law text (Starts v) good lower e is =
 by_test law text Any good lower e is = turns text (codes "*") Any e (one_test law (codes "*") Any refl) refl refl is
 by_test law text test good lower e is = stays text good lower e
 
-by_tokens : (law : NoDotEnd) (text : List ℕ) (ts : List Token) → clause_fault text ≡ None → map to_ascii_lowercase text ≡ text → beside_build text ≡ starred text ts → tokens text ≡ ts → IsBeside text
+by_tokens : (law : NoDotEnd) (text : List ℕ) (ts : List Token) → clause_fault text ≡ None → map to_ascii_lowercase text ≡ text → beside_build text ≡ tokens_beside_build text ts → tokens text ≡ ts → IsSoundBeside text
 by_tokens law text (token.Test test ∷ []) good lower e is = by_test law text test good lower e is
 by_tokens law text ts good lower e is = stays text good lower e
 
-pub is_beside_build : (law : NoDotEnd) (text : List ℕ) → clause_fault text ≡ None → map to_ascii_lowercase text ≡ text → IsBeside text
+pub is_beside_build : (law : NoDotEnd) (text : List ℕ) → clause_fault text ≡ None → map to_ascii_lowercase text ≡ text → IsSoundBeside text
 is_beside_build law text good lower = by_single (is_single (sign_of text)) refl
   where
-    by_single : (k : Bool) → is_single (sign_of text) ≡ k → IsBeside text
-    by_single false e = stays text good lower (ap (λ k. if k then starred text (tokens text) else text) e)
-    by_single true e = by_tokens law text (tokens text) good lower (ap (λ k. if k then starred text (tokens text) else text) e) refl
+    by_single : (k : Bool) → is_single (sign_of text) ≡ k → IsSoundBeside text
+    by_single false e = stays text good lower (ap (λ k. if k then tokens_beside_build text (tokens text) else text) e)
+    by_single true e = by_tokens law text (tokens text) good lower (ap (λ k. if k then tokens_beside_build text (tokens text) else text) e) refl

@@ -137,7 +137,7 @@ plain_sign (b ∷ bs) h =
     ∙ ap (sign_by false false false (b == exclamation) (b == tilde)) (no_equals bs rest)
     ∙ plain_by (b == exclamation) (b == tilde)
 
-sign_found : (sign : Sign) (w : List ℕ) → list_all is_beside w ≡ true → sign_of (behind_sign sign w) ≡ sign
+pub sign_found : (sign : Sign) (w : List ℕ) → list_all is_beside w ≡ true → sign_of (behind_sign sign w) ≡ sign
 sign_found Plain w h = plain_sign w h
 sign_found Single w h = ap (λ q. if q then Double else Single) (no_equals w h)
 sign_found Double w h = refl

@@ -1,10 +1,13 @@
 pub mod KeptLemmas
 pub mod PlaceLemmas
+pub mod SpaceLemmas
 pub mod GlobLemmas
 pub mod TestLemmas
 pub mod PieceLemmas
 pub mod ClauseLemmas
 pub mod BesideLemmas
+pub mod BuildLemmas
+pub mod AlikeLemmas
 pub mod FaultLemmas
 pub mod EndLemmas
 pub mod GrammarLemmas

@@ -3,7 +3,7 @@ use Rattle.std.proofs.Common.{◌≡◌, ℕ, zero, suc, ◌+◌, ◌-◌, ◌�
 use Rattle.std.specs.Prelude.{if◌then◌else◌, ◌==◌, ◌&&◌, slice_get, unwrap_or}
 use Rattle.std.specs.List.{list_all, onto_first, slice_split}
 use Rattle.conda_clause.specs.Faults.{place_of}
-use Rattle.conda_clause.specs.Kept.{has_gap, kept, kept_runs, last_of, marks, marks_at, run_marks}
+use Rattle.conda_clause.specs.Kept.{has_gap, kept, kept_runs, last_of, chars_at, kept_chars, run_chars}
 use Rattle.conda_clause.proofs.KeptLemmas.{is_space, marks_text}
 
 -- A text without spaces.
@@ -20,18 +20,18 @@ bare_split (x ∷ xs) h = by_space (x == 32) h (bare_split xs)
     by_space true e more = absurd cc
     by_space false e more = ap (onto_first x) (more e)
 
-bare_marks : (xs : List ℕ) → list_all no_space xs ≡ true → marks xs ≡ marks_at 0 xs
+bare_marks : (xs : List ℕ) → list_all no_space xs ≡ true → kept_chars xs ≡ chars_at 0 xs
 bare_marks xs h = ap (kept_runs None 0) (bare_split xs h) ∙ only xs
   where
-    only : (ys : List ℕ) → kept_runs None 0 (ys ∷ []) ≡ marks_at 0 ys
+    only : (ys : List ℕ) → kept_runs None 0 (ys ∷ []) ≡ chars_at 0 ys
     only [] = refl
-    only (y ∷ ys) = append-nil (marks_at 0 (y ∷ ys))
+    only (y ∷ ys) = append-nil (chars_at 0 (y ∷ ys))
 
 -- it is kept as it is
 pub kept_bare : (xs : List ℕ) → list_all no_space xs ≡ true → kept xs ≡ xs
 kept_bare xs h = ap (map (λ m. m.1)) (bare_marks xs h) ∙ marks_text 0 xs
 
-place_at : (at : ℕ) (xs : List ℕ) (i end : ℕ) → i ≤ length xs → end ≡ at + length xs → unwrap_or (slice_get (map (λ m. m.0) (marks_at at xs)) i) end ≡ at + i
+place_at : (at : ℕ) (xs : List ℕ) (i end : ℕ) → i ≤ length xs → end ≡ at + length xs → unwrap_or (slice_get (map (λ m. m.0) (chars_at at xs)) i) end ≡ at + i
 place_at at [] i end h e = omega arith
 place_at at (x ∷ xs) zero end h e = omega arith
 place_at at (x ∷ xs) (suc i) end h e = place_at (at + 1) xs i end (omega arith) (omega arith) ∙ omega arith
@@ -73,22 +73,22 @@ within_cons : (n at b : ℕ) (ms : List (ℕ × ℕ)) → at ≤ n → AreWithin
 within_cons n at b ms h k zero end e = h
 within_cons n at b ms h k (suc i) end e = k i end e
 
-within_run : (n at : ℕ) (xs : List ℕ) → at + length xs ≤ n → AreWithin n (marks_at at xs)
+within_run : (n at : ℕ) (xs : List ℕ) → at + length xs ≤ n → AreWithin n (chars_at at xs)
 within_run n at [] h = λ i end e. e
-within_run n at (x ∷ xs) h = within_cons n at x (marks_at (at + 1) xs) (omega arith) (within_run n (at + 1) xs (omega arith))
+within_run n at (x ∷ xs) h = within_cons n at x (chars_at (at + 1) xs) (omega arith) (within_run n (at + 1) xs (omega arith))
 
-within_marks : (n at : ℕ) (last : Option ℕ) (xs : List ℕ) → at + length xs ≤ n → AreWithin n (run_marks last at xs)
+within_marks : (n at : ℕ) (last : Option ℕ) (xs : List ℕ) → at + length xs ≤ n → AreWithin n (run_chars last at xs)
 within_marks n at last [] h = λ i end e. e
 within_marks n at last (x ∷ xs) h = by_gap (has_gap last x)
   where
-    by_gap : (k : Bool) → AreWithin n (if k then (at - 1, 32) ∷ marks_at at (x ∷ xs) else marks_at at (x ∷ xs))
-    by_gap true = within_cons n (at - 1) 32 (marks_at at (x ∷ xs)) (omega arith) (within_run n at (x ∷ xs) h)
+    by_gap : (k : Bool) → AreWithin n (if k then (at - 1, 32) ∷ chars_at at (x ∷ xs) else chars_at at (x ∷ xs))
+    by_gap true = within_cons n (at - 1) 32 (chars_at at (x ∷ xs)) (omega arith) (within_run n at (x ∷ xs) h)
     by_gap false = within_run n at (x ∷ xs) h
 
 within_runs : (n at : ℕ) (last : Option ℕ) (runs : List (List ℕ)) → at + total runs ≤ n + 1 → AreWithin n (kept_runs last at runs)
 within_runs n at last [] h = λ i end e. e
 within_runs n at last (run ∷ runs) h =
-    within_append n (run_marks last at run) (kept_runs (last_of last run) (at + length run + 1) runs) (within_marks n at last run (omega arith))
+    within_append n (run_chars last at run) (kept_runs (last_of last run) (at + length run + 1) runs) (within_marks n at last run (omega arith))
     (within_runs n (at + length run + 1) (last_of last run) runs (omega arith))
 
 pub place_inside : (text : List ℕ) (i : ℕ) → place_of text i ≤ length text

@@ -100,29 +100,29 @@ is_single AtLeast = false
 is_single Near = false
 
 -- a test by a prefix as `v.*`, one that always holds as `*`, and every other one as it is written
-abbrev pub starred_test : List ℕ → test.Test → List ℕ
-starred_test text Any = codes "*"
-starred_test text (Starts v) = v ++ codes ".*"
-starred_test text (Is v) = text
-starred_test text (IsNot v) = text
-starred_test text (IsBelow v) = text
-starred_test text (IsAtMost v) = text
-starred_test text (IsAbove v) = text
-starred_test text (IsAtLeast v) = text
-starred_test text (StartsNot v) = text
-starred_test text (IsNear v front) = text
+abbrev pub test_beside_build : List ℕ → test.Test → List ℕ
+test_beside_build text Any = codes "*"
+test_beside_build text (Starts v) = v ++ codes ".*"
+test_beside_build text (Is v) = text
+test_beside_build text (IsNot v) = text
+test_beside_build text (IsBelow v) = text
+test_beside_build text (IsAtMost v) = text
+test_beside_build text (IsAbove v) = text
+test_beside_build text (IsAtLeast v) = text
+test_beside_build text (StartsNot v) = text
+test_beside_build text (IsNear v front) = text
 
 -- the same where the test stands alone
-abbrev pub starred : List ℕ → List Token → List ℕ
-starred text [] = text
-starred text (Open ∷ more) = text
-starred text (Close ∷ more) = text
-starred text (And ∷ more) = text
-starred text (Or ∷ more) = text
-starred text (Test test ∷ []) = starred_test text test
-starred text (Test test ∷ token ∷ more) = text
+abbrev pub tokens_beside_build : List ℕ → List Token → List ℕ
+tokens_beside_build text [] = text
+tokens_beside_build text (Open ∷ more) = text
+tokens_beside_build text (Close ∷ more) = text
+tokens_beside_build text (And ∷ more) = text
+tokens_beside_build text (Or ∷ more) = text
+tokens_beside_build text (Test test ∷ []) = test_beside_build text test
+tokens_beside_build text (Test test ∷ token ∷ more) = text
 
 -- The clause that stands beside a build: the one test `=v`, `=v*` or `=v.*` is `v.*` there, and
 -- `=*` is `*`.
 abbrev pub beside_build : List ℕ → List ℕ
-beside_build text = if is_single (sign_of text) then starred text (tokens text) else text
+beside_build text = if is_single (sign_of text) then tokens_beside_build text (tokens text) else text

@@ -23,34 +23,34 @@ has_gap None b = false
 has_gap (Some last) b = not (drops_behind last || is_joint b)
 
 -- the characters of a run that begins at a place, each behind its place
-abbrev pub marks_at : ℕ → List ℕ → List (ℕ × ℕ)
-marks_at at [] = []
-marks_at at (b ∷ bs) = (at, b) ∷ marks_at (at + 1) bs
+abbrev pub chars_at : ℕ → List ℕ → List (ℕ × ℕ)
+chars_at at [] = []
+chars_at at (b ∷ bs) = (at, b) ∷ chars_at (at + 1) bs
 
 -- the same with the space before it that stays, where the run before ends with this character
-abbrev pub run_marks : Option ℕ → ℕ → List ℕ → List (ℕ × ℕ)
-run_marks last at [] = []
-run_marks last at (b ∷ bs) =
-    if has_gap last b then (at - 1, space) ∷ marks_at at (b ∷ bs) else marks_at at (b ∷ bs)
+abbrev pub run_chars : Option ℕ → ℕ → List ℕ → List (ℕ × ℕ)
+run_chars last at [] = []
+run_chars last at (b ∷ bs) =
+    if has_gap last b then (at - 1, space) ∷ chars_at at (b ∷ bs) else chars_at at (b ∷ bs)
 
 -- What stays of the runs from a place on, behind a run that ends with this character. An empty run
 -- stands between two spaces.
 abbrev pub kept_runs : Option ℕ → ℕ → List (List ℕ) → List (ℕ × ℕ)
 kept_runs last at [] = []
 kept_runs last at (run ∷ runs) =
-    run_marks last at run ++ kept_runs (last_of last run) (at + length run + 1) runs
+    run_chars last at run ++ kept_runs (last_of last run) (at + length run + 1) runs
 
 -- the characters that stay, each behind its place
-abbrev pub marks : List ℕ → List (ℕ × ℕ)
-marks text = kept_runs None 0 (slice_split (λ b. b == space) text)
+abbrev pub kept_chars : List ℕ → List (ℕ × ℕ)
+kept_chars text = kept_runs None 0 (slice_split (λ b. b == space) text)
 
 -- the characters that stay
 abbrev pub kept : List ℕ → List ℕ
-kept text = map (λ m. m.1) (marks text)
+kept text = map (λ m. m.1) (kept_chars text)
 
 -- the place of each in the text
 abbrev pub places : List ℕ → List ℕ
-places text = map (λ m. m.0) (marks text)
+places text = map (λ m. m.0) (kept_chars text)
 
 -- the text of a version clause, without the spaces that are dropped and in lower case
 abbrev pub clause_text : List ℕ → List ℕ

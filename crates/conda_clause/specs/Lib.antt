@@ -1,8 +1,10 @@
 pub mod Kept
+pub mod Spaces
 pub mod Glob
 pub mod Tests
 pub mod Pieces
 pub mod Clause
 pub mod Tree
 pub mod Truth
+pub mod Beside
 pub mod Faults

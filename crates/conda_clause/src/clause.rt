@@ -1,6 +1,6 @@
 ghost use Rattle.std.specs.Prelude.{◌≡◌, ◌++◌, IfOk, None, codes, map, slice_get, unwrap_or};
 ghost use Rattle.std.specs.Char.{to_ascii_lowercase};
-ghost use Rattle.conda_clause.specs.Clause.{beside_build, clause_fault, is_single, starred};
+ghost use Rattle.conda_clause.specs.Clause.{beside_build, clause_fault, is_single, tokens_beside_build};
 ghost use Rattle.conda_clause.specs.Pieces as pieces;
 ghost use Rattle.conda_base.specs.Reads.{Gives};
 ghost use Rattle.conda_clause.specs.Faults.{clause_read, kept_read, spec_fault_of};
@@ -132,8 +132,8 @@ fn is_single(sign: Sign) -> bool
     matches!(sign, Sign::Single)
 }
 
-fn starred(alloc: Global, text: &Text, tokens: &[Token]) -> Result<Text, AllocError>
-    ensures { IfOk result (λ t. t ≡ starred text.now tokens.now) }
+fn tokens_beside_build(alloc: Global, text: &Text, tokens: &[Token]) -> Result<Text, AllocError>
+    ensures { IfOk result (λ t. t ≡ tokens_beside_build text.now tokens.now) }
 {
     match tokens {
         [Token::Test(Test::Starts(v))] => with_star(alloc, v),
@@ -156,7 +156,7 @@ fn beside_text(alloc: Global, text: &Text, tokens: &[Token]) -> Result<Text, All
     ensures { IfOk result (λ t. t ≡ beside_build text.now) }
 {
     if is_single(sign_of(text.as_str().as_bytes())) {
-        starred(alloc, text, tokens)
+        tokens_beside_build(alloc, text, tokens)
     } else {
         text.copy()
     }

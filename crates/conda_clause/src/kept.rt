@@ -1,5 +1,5 @@
 ghost use Rattle.std.specs.Prelude.{◌≡◌, ◌++◌, ◌+◌, ◌^◌, ◌<◌, IfOk, OnOk, length, map, string_bytes};
-ghost use Rattle.conda_clause.specs.Kept.{drops_behind, has_gap, is_joint, kept, last_of, marks_at, places, run_marks};
+ghost use Rattle.conda_clause.specs.Kept.{drops_behind, has_gap, is_joint, kept, last_of, chars_at, places, run_chars};
 
 use conda_base::Text;
 use std::alloc::{AllocError, Global};
@@ -48,7 +48,7 @@ fn last_of(last: Option<u8>, run: &[u8]) -> Option<u8>
 fn add_places(places: &mut Vec<usize>, at: usize, run: &[u8]) -> Result<(), AllocError>
     requires { at + length run.now < 2 ^ 64 }
     ensures { OnOk result
-        (places.new.items ≡ places.old.items ++ map (λ m. m.0) (marks_at at run.now)) }
+        (places.new.items ≡ places.old.items ++ map (λ m. m.0) (chars_at at run.now)) }
 {
     for i in 0..run.len() {
         places.push(at + i)?;
@@ -67,9 +67,9 @@ fn add_run(
     requires { at + length run.now < 2 ^ 64 }
     ensures text { OnOk result
         (string_bytes text.new
-        ≡ string_bytes text.old ++ map (λ m. m.1) (run_marks last at run.now)) }
+        ≡ string_bytes text.old ++ map (λ m. m.1) (run_chars last at run.now)) }
     ensures places { OnOk result
-        (places.new.items ≡ places.old.items ++ map (λ m. m.0) (run_marks last at run.now)) }
+        (places.new.items ≡ places.old.items ++ map (λ m. m.0) (run_chars last at run.now)) }
 {
     let Some(first) = run.as_bytes().first() else {
         return Ok(());

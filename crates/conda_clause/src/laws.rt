@@ -1,11 +1,15 @@
-ghost use Rattle.std.specs.Prelude.{◌≡◌, ◌<◌, ◌≤◌, ◌==◌, ◌&&◌, ◌||◌, ◌∷◌, ◌++◌, [], List, None, Some, false, drop, length, not, take, true, ℕ};
+ghost use Rattle.std.specs.Prelude.{◌≡◌, ◌↔◌, ◌<◌, ◌≤◌, ◌==◌, ◌&&◌, ◌||◌, ◌∷◌, ◌++◌, [], List, None, Some, false, drop, length, not, take, true, ℕ};
 ghost use Rattle.std.specs.List.{list_all};
 ghost use Rattle.conda_base.specs.Signs.{bar, close_paren, comma, equals, greater, less, open_paren, space};
 ghost use Rattle.conda_base.specs.Texts.{ends_with};
+ghost use Rattle.std.specs.declared.cmp.Ordering.TheVariants.{Equal};
+ghost use Rattle.conda_version.specs.Order.{version_cmp};
 ghost use Rattle.conda_clause.specs.declared.test.Test.{Test};
-ghost use Rattle.conda_clause.specs.Clause.{clause_fault, is_clause_char};
+ghost use Rattle.conda_clause.specs.Beside.{IsBesideBuild};
+ghost use Rattle.conda_clause.specs.Clause.{beside_build, clause_fault, is_clause_char};
 ghost use Rattle.conda_clause.specs.Faults.{place_of};
-ghost use Rattle.conda_clause.specs.Kept.{kept};
+ghost use Rattle.conda_clause.specs.Kept.{kept, places};
+ghost use Rattle.conda_clause.specs.Spaces.{IsKept};
 ghost use Rattle.conda_clause.specs.Pieces as pieces;
 ghost use Rattle.conda_clause.specs.Tests.{IsFaultless, IsTest, is_version_char, test_holds, test_of};
 ghost use Rattle.conda_clause.specs.Tree.{IsClause, IsPart, Tree, Writes, tree_holds};
@@ -30,9 +34,12 @@ pub fn clause_laws()
     version::grammar_laws();
 }
 
-/// A text without spaces is kept as it is, and each of its characters stays where it stood. No
-/// place lies behind the end of a text.
+/// The characters that stay, and their places, are those that the text says: all that are no
+/// spaces, and the spaces that part two of them. A text without spaces is kept as it is, and each
+/// of its characters stays where it stood. No place lies behind the end of a text.
 pub fn kept_laws()
+    ensures stay { (text chars at : List ℕ) →
+        IsKept text chars at ↔ ((chars ≡ kept text) × (at ≡ places text)) }
     ensures same { (text : List ℕ) → list_all (λ b. not (b == space)) text ≡ true →
         kept text ≡ text }
     ensures places { (text : List ℕ) → list_all (λ b. not (b == space)) text ≡ true →
@@ -79,6 +86,20 @@ pub fn truth_laws()
         clause_holds (open_paren ∷ a ++ close_paren ∷ []) version ≡ clause_holds a version }
     ensures alone { (text : List ℕ) (test : Test) → IsTest text test →
         (version : List ℕ) → clause_holds text version ≡ test_holds test version }
+    // Of versions that are equal in order it says the same.
+    ensures alike { (text x y : List ℕ) → version_cmp x y ≡ Equal →
+        clause_holds text x ≡ clause_holds text y }
+{
+    version::grammar_laws();
+    version::order_laws();
+}
+
+/// How a clause is written where a build follows, and that it holds for the same versions there.
+pub fn beside_laws()
+    ensures written { (text beside : List ℕ) → clause_fault text ≡ None →
+        IsBesideBuild text beside ↔ (beside ≡ beside_build text) }
+    ensures holds { (text version : List ℕ) → clause_fault text ≡ None →
+        clause_holds (beside_build text) version ≡ clause_holds text version }
 {
     version::grammar_laws();
 }

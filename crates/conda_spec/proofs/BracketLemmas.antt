@@ -14,8 +14,7 @@ use Rattle.conda_spec.specs.Grammar.{IsItem, IsItems}
 use Rattle.conda_spec.specs.Grammar.IsItem.{build_number as item_number, subdir as item_subdir}
 use Rattle.conda_spec.specs.Grammar.IsItems.{last, more}
 use Rattle.conda_spec.specs.Grammar.IsValue.{bare}
-use Rattle.conda_spec.specs.Parts.{IsFreeWord, NoneOf, bars_channel}
-use Rattle.conda_spec.specs.Reading.{bars_bare, nothing}
+use Rattle.conda_spec.specs.Parts.{bars_bare, bars_channel, IsFreeWord, NoneOf, nothing}
 use Rattle.conda_spec.specs.Text.{brackets_text}
 use Rattle.conda_spec.proofs.LowerLaws.{Laws}
 use Rattle.conda_spec.proofs.PieceLemmas.{AllOf, fewer, none_in_both, none_of_all}

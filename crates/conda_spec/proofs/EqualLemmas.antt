@@ -16,7 +16,7 @@ use Rattle.conda_clause.specs.declared.test.Test.TheVariants.{Any, Starts}
 use Rattle.conda_clause.specs.declared.token.Token.{Token}
 use Rattle.conda_clause.specs.declared.token.Token.TheVariants as token
 use Rattle.conda_clause.specs.declared.token.Token.TheVariants.{And, Close, Open, Or}
-use Rattle.conda_clause.specs.Clause.{after, beside_build, clause_fault, fault_from, is_single, lesser, starred, step, unclosed}
+use Rattle.conda_clause.specs.Clause.{after, beside_build, clause_fault, fault_from, is_single, lesser, tokens_beside_build, step, unclosed}
 use Rattle.conda_clause.specs.Pieces.{is_mark, pieces, token_of, tokens}
 use Rattle.conda_base.specs.Texts.{ends_with}
 use Rattle.conda_clause.specs.Tests.{is_any, shortened, sign_len, sign_of, test_of, test_with, version_text, without_star}
@@ -132,12 +132,12 @@ single_sign [] h = refl
 single_sign (c ∷ cs) h = let other : (c == 61) ≡ false = grind (arith, nat_tests, h.0) in rw other refl
 
 -- what stands beside a build for such a test
-stood : (bs : List ℕ) (test : Test) → AllFree (61 ∷ bs) → sign_of (61 ∷ bs) ≡ Single → test_of (61 ∷ bs) ≡ Some test → beside_build (61 ∷ bs) ≡ starred (61 ∷ bs) (token.Test test ∷ [])
+stood : (bs : List ℕ) (test : Test) → AllFree (61 ∷ bs) → sign_of (61 ∷ bs) ≡ Single → test_of (61 ∷ bs) ≡ Some test → beside_build (61 ∷ bs) ≡ tokens_beside_build (61 ∷ bs) (token.Test test ∷ [])
 stood bs test free single e =
     let text : List ℕ = 61 ∷ bs in
     let all : tokens text ≡ token.Test test ∷ [] =
     ap (filter_map token_of) (one_piece 61 bs free) ∙ ap (λ t. cons_option t []) (token_is_test 61 bs refl ∙ ap (option_map token.Test) e) in
-    ap (λ sign. cond (is_single sign) (starred text (tokens text)) text) single ∙ ap (starred text) all
+    ap (λ sign. cond (is_single sign) (tokens_beside_build text (tokens text)) text) single ∙ ap (tokens_beside_build text) all
 
 free_shortened : (p : ℕ → Bool) (text : List ℕ) (n : ℕ) → NoneOf p text → NoneOf p (take n text)
 free_shortened p text zero h = tt

@@ -31,9 +31,10 @@ use Rattle.conda_spec.specs.Grammar.IsNamed.{named}
 use Rattle.conda_spec.specs.Grammar.IsSpecText.{bracketed, plain}
 use Rattle.conda_spec.specs.Grammar.IsValue.{bare, quoted as in_quotes}
 use Rattle.conda_spec.specs.Grammar.IsWords.{alone, with_build}
-use Rattle.conda_spec.specs.Parts.{IsFreeWord, NoneOf, Parts, bars_build, bars_channel}
-use Rattle.conda_spec.specs.Reading.{Front, SpecRead, VersionAndBuild, bars_bare, before_equals, brackets_of, build_at, build_word, channel_at, channel_cut, channel_read, clause_at, clause_value, ends_name, equal_at, equal_to, equals_cut, equals_read, followed_read, front_cut, front_read, has_key, is_comparison, is_equal_word, is_free, is_quote, is_sign, is_sign_or_equals, item_key, item_read, items_of, items_read, joined_cut, joined_read, last_word, named_read, nothing, number_or, parts_of, put, quoted, spaced_cut, spaced_read, spec_cut, spec_read, value_of, version_of, wanted_read, with_wanted, words_cut, words_read, without_quote}
+use Rattle.conda_spec.specs.Parts.{bars_bare, bars_build, bars_channel, ends_name, Front, is_comparison, is_quote, is_sign, is_sign_or_equals, IsFreeWord, NoneOf, nothing, Parts}
+use Rattle.conda_spec.specs.Reading.{SpecRead, VersionAndBuild, before_equals, brackets_of, build_at, build_word, channel_at, channel_cut, channel_read, clause_at, clause_value, equal_at, equal_to, equals_cut, equals_read, followed_read, front_cut, front_read, has_key, is_equal_word, is_free, item_key, item_read, items_of, items_read, joined_cut, joined_read, last_word, name_read, number_or, spec_parts, put, quoted, spaced_cut, spaced_read, spec_cut, spec_read, value_of, version_of, wanted_read, with_wanted, words_cut, two_words_read, without_quote}
 use Rattle.conda_spec.proofs.LowerLaws.{Laws}
+use Rattle.conda_spec.proofs.PartLemmas.{are_parts, equal_out, front_right, items_right}
 use Rattle.conda_spec.proofs.OnlyLemmas.{any_none, equal_word, last_some, none_any}
 use Rattle.conda_spec.proofs.PieceLemmas.{fewer, first_place, no_place, none_in_both}
 use Rattle.conda_spec.proofs.SeamLemmas.{colons_cut, last_off}
@@ -52,11 +53,11 @@ build_reads : (at : ℕ) (text : List ℕ) → IsFreeWord bars_build text → bu
 unfolding build_at
 build_reads at text h = rw (free_is bars_build text h) refl
 
-clause_gives : (place : ℕ → ℕ) (start added : ℕ) (text clause : List ℕ) → IsClauseOf text clause → clause_at place start added text ≡ Ok clause
+clause_gives : (l : Laws) (place : ℕ → ℕ) (start added : ℕ) (text clause : List ℕ) → IsClauseOf text clause → clause_at place start added text ≡ Ok clause
 unfolding clause_at
-clause_gives place start added text clause h =
+clause_gives l place start added text clause h =
     let placed : Option (ℕ × SpecWhy) → Option (ℕ × SpecWhy) = option_map (λ fault. (place (start + (fault.0 - added)), fault.1)) in
-    ap (λ fault. unless (placed fault) (map to_ascii_lowercase text)) (ap clause_fault (sym h.0) ∙ h.1) ∙ ap Ok (sym h.0)
+    ap (λ fault. unless (placed fault) (map to_ascii_lowercase text)) (ap clause_fault (sym h.0) ∙ l.right clause h.1) ∙ ap Ok (sym h.0)
 
 spaceless_word : (word : List ℕ) → list_all is_clause_char (map to_ascii_lowercase word) ≡ true → IsFreeOf space word
 spaceless_word [] h = tt
@@ -70,19 +71,19 @@ spaceless_word (b ∷ bs) h =
 
 -- no space stands in the text of a version clause
 clause_spaces : (l : Laws) (word clause : List ℕ) → IsClauseOf word clause → IsFreeOf space word
-clause_spaces l word clause h = spaceless_word word (sym (ap (list_all is_clause_char) h.0) ∙ l.chars clause h.1)
+clause_spaces l word clause h = spaceless_word word (sym (ap (list_all is_clause_char) h.0) ∙ l.chars clause (l.right clause h.1))
 
 no_slip : (b : ℕ) (mark : ℕ) → (b == mark) ≡ true → to_ascii_lowercase mark ≡ mark → to_ascii_lowercase b ≡ mark
 no_slip b mark e own = ap to_ascii_lowercase (eqb-true b mark e) ∙ own
 
 -- it begins with no joint
 clause_begins : (l : Laws) (word clause : List ℕ) → IsClauseOf word clause → (b : ℕ) × (bs : List ℕ) × (word ≡ b ∷ bs) × (is_joint b ≡ false)
-clause_begins l [] clause h = let some = l.some clause h.1 in absurd (omega (arith, some, ap length h.0))
+clause_begins l [] clause h = let some = l.some clause (l.right clause h.1) in absurd (omega (arith, some, ap length h.0))
 clause_begins l (b ∷ bs) clause h = (b, bs, refl, by (b == 44) refl (b == 124) refl)
   where
     by : (k : Bool) → (b == 44) ≡ k → (m : Bool) → (b == 124) ≡ m → is_joint b ≡ false
-    by true e m f = absurd ((l.front clause h.1 (map to_ascii_lowercase bs)).0 (h.0 ∙ ap (λ c. c ∷ map to_ascii_lowercase bs) (no_slip b 44 e refl)))
-    by false e true f = absurd ((l.front clause h.1 (map to_ascii_lowercase bs)).1 (h.0 ∙ ap (λ c. c ∷ map to_ascii_lowercase bs) (no_slip b 124 f refl)))
+    by true e m f = absurd ((l.front clause (l.right clause h.1) (map to_ascii_lowercase bs)).0 (h.0 ∙ ap (λ c. c ∷ map to_ascii_lowercase bs) (no_slip b 44 e refl)))
+    by false e true f = absurd ((l.front clause (l.right clause h.1) (map to_ascii_lowercase bs)).1 (h.0 ∙ ap (λ c. c ∷ map to_ascii_lowercase bs) (no_slip b 124 f refl)))
     by false e false f = rw (e, f) refl
 
 no_space_in_build : (b : ℕ) → bars_build b ≡ false → is_byte space b ≡ false
@@ -102,23 +103,23 @@ cut_none l word h = (l.no_first space word).1 h
 cut_some : (l : Laws) (word build : List ℕ) → IsFreeOf space word → cut_first space (word ++ space ∷ build) ≡ Some (word, build)
 cut_some l word build h = (l.first space (word ++ space ∷ build) word build).1 (refl, h)
 
-words_gives : (l : Laws) (place : ℕ → ℕ) (word text : List ℕ) (version build : Option (List ℕ)) → IsWords word text version build → words_read place text ≡ Ok (version, build)
-unfolding words_read
+words_gives : (l : Laws) (place : ℕ → ℕ) (word text : List ℕ) (version build : Option (List ℕ)) → IsWords word text version build → two_words_read place text ≡ Ok (version, build)
+unfolding two_words_read
 words_gives l place word text version build (alone w clause h) =
     ap (words_cut place w) (cut_none l w (clause_spaces l w clause h))
-    ∙ ap (λ (r : SpecRead (List ℕ)). r >>= λ c. Ok (Some c, None)) (clause_gives place 0 0 w clause h)
+    ∙ ap (λ (r : SpecRead (List ℕ)). r >>= λ c. Ok (Some c, None)) (clause_gives l place 0 0 w clause h)
 words_gives l place word text version build (with_build w clause b h k) =
     ap (words_cut place (w ++ space ∷ b)) (cut_some l w b (clause_spaces l w clause h))
-    ∙ ap (λ (r : SpecRead (List ℕ)). r >>= λ c. build_word place (length w + 1) b >>= λ d. Ok (Some c, Some d)) (clause_gives place 0 0 w clause h)
+    ∙ ap (λ (r : SpecRead (List ℕ)). r >>= λ c. build_word place (length w + 1) b >>= λ d. Ok (Some c, Some d)) (clause_gives l place 0 0 w clause h)
     ∙ ap (λ (r : SpecRead (List ℕ)). r >>= λ d. Ok (Some clause, Some d)) (word_gives l place (length w + 1) b k)
 
-equal_gives : (place : ℕ → ℕ) (start : ℕ) (v clause : List ℕ) → IsClauseOf (equal_to v) clause → equal_at place start v ≡ Ok clause
+equal_gives : (l : Laws) (place : ℕ → ℕ) (start : ℕ) (v clause : List ℕ) → IsClauseOf (equal_to v) clause → equal_at place start v ≡ Ok clause
 unfolding equal_at
-equal_gives place start v clause h = by (ends_with 42 v) h
+equal_gives l place start v clause h = by (ends_with 42 v) h
   where
     by : (k : Bool) → IsClauseOf (cond k v (codes "==" ++ v)) clause → cond k (clause_at place start 0 v) (clause_at place start 2 (codes "==" ++ v)) ≡ Ok clause
-    by true w = clause_gives place start 0 v clause w
-    by false w = clause_gives place start 2 (codes "==" ++ v) clause w
+    by true w = clause_gives l place start 0 v clause w
+    by false w = clause_gives l place start 2 (codes "==" ++ v) clause w
 
 -- ---- behind a space
 
@@ -135,7 +136,7 @@ wanted_spaced place text b bs is h = subst (λ t. wanted_read place true t ≡ s
 
 spaced_gives : (l : Laws) (place : ℕ → ℕ) (word text : List ℕ) (version build : Option (List ℕ)) → IsWords word text version build
     → (IsSome build → (v : List ℕ) → NoneOf is_sign_or_equals v → word ≢ equals ∷ v) → wanted_read place true text ≡ Ok (version, build)
-unfolding spaced_read words_read
+unfolding spaced_read two_words_read
 spaced_gives l place word text version build (alone w clause h) other =
     let first = clause_begins l w clause h in
     wanted_spaced place w first.0 first.1 first.2 first.3
@@ -146,7 +147,7 @@ spaced_gives l place word text version build (with_build w clause b h k) other =
     let whole : List ℕ = w ++ space ∷ b in
     wanted_spaced place whole first.0 (first.1 ++ space ∷ b) (ap (λ t. t ++ space ∷ b) first.2) first.3
     ∙ ap (spaced_cut place whole) (cut_some l w b (clause_spaces l w clause h))
-    ∙ ap (λ k. cond k (equal_at place 1 (drop 1 w) >>= λ clause. build_word place (length w + 1) b >>= λ build. Ok (Some clause, Some build)) (words_read place whole)) (not_equal_word w (other refl))
+    ∙ ap (λ k. cond k (equal_at place 1 (drop 1 w) >>= λ clause. build_word place (length w + 1) b >>= λ build. Ok (Some clause, Some build)) (two_words_read place whole)) (not_equal_word w (other refl))
     ∙ words_gives l place w whole (Some clause) (Some b) (with_build w clause b h k)
 
 is_equal : (v : List ℕ) → NoneOf is_sign_or_equals v → is_equal_word (equals ∷ v) ≡ true
@@ -154,13 +155,13 @@ is_equal v h = rw (none_any is_sign_or_equals v h) refl
 
 spaced_equal_gives : (l : Laws) (place : ℕ → ℕ) (v clause build : List ℕ) → IsPlainVersion v → IsClauseOf (equal_to v) clause → IsFreeWord bars_build build
     → wanted_read place true ((equals ∷ v) ++ space ∷ build) ≡ Ok (Some clause, Some build)
-unfolding spaced_read words_read wanted_read
+unfolding spaced_read two_words_read wanted_read
 spaced_equal_gives l place v clause build p w k =
     let word : List ℕ = equals ∷ v in
     let whole : List ℕ = word ++ space ∷ build in
     ap (spaced_cut place whole) (cut_some l word build (refl, p.1))
-    ∙ ap (λ k. cond k (equal_at place 1 v >>= λ clause. build_word place (length word + 1) build >>= λ build. Ok (Some clause, Some build)) (words_read place whole)) (is_equal v p.0)
-    ∙ ap (λ (r : SpecRead (List ℕ)). r >>= λ clause. build_word place (length word + 1) build >>= λ build. Ok (Some clause, Some build)) (equal_gives place 1 v clause w)
+    ∙ ap (λ k. cond k (equal_at place 1 v >>= λ clause. build_word place (length word + 1) build >>= λ build. Ok (Some clause, Some build)) (two_words_read place whole)) (is_equal v p.0)
+    ∙ ap (λ (r : SpecRead (List ℕ)). r >>= λ clause. build_word place (length word + 1) build >>= λ build. Ok (Some clause, Some build)) (equal_gives l place 1 v clause w)
     ∙ ap (λ (r : SpecRead (List ℕ)). r >>= λ build. Ok (Some clause, Some build)) (word_gives l place (length word + 1) build k)
 
 -- ---- directly behind the name
@@ -216,12 +217,12 @@ equals_words : (l : Laws) (place : ℕ → ℕ) (word text : List ℕ) (version 
 unfolding equals_read
 equals_words l place word text version build (alone w clause h) sign =
     ap (equals_cut place w) (cut_none l w (clause_spaces l w clause h))
-    ∙ ap (λ k. cond k (words_read place w) (joined_read place w)) sign
+    ∙ ap (λ k. cond k (two_words_read place w) (joined_read place w)) sign
     ∙ words_gives l place w w (Some clause) None (alone w clause h)
 equals_words l place word text version build (with_build w clause b h k) sign =
     let whole : List ℕ = w ++ space ∷ b in
     ap (equals_cut place whole) (cut_some l w b (clause_spaces l w clause h))
-    ∙ ap (λ k. cond k (words_read place whole) (joined_read place w >>= λ wanted. Err (place (length w + 1), Words))) sign
+    ∙ ap (λ k. cond k (two_words_read place whole) (joined_read place w >>= λ wanted. Err (place (length w + 1), Words))) sign
     ∙ words_gives l place w whole (Some clause) (Some b) (with_build w clause b h k)
 
 text_begins : (word text : List ℕ) (version build : Option (List ℕ)) (b : ℕ) (bs : List ℕ) → IsWords word text version build → word ≡ b ∷ bs → (more : List ℕ) × (text ≡ b ∷ more)
@@ -232,10 +233,10 @@ wanted_equals : (place : ℕ → ℕ) (text more : List ℕ) → text ≡ equals
 unfolding wanted_read
 wanted_equals place text more e = subst (λ t. wanted_read place false t ≡ equals_read place t) (sym e) refl
 
-wanted_compares : (place : ℕ → ℕ) (text : List ℕ) (sign : ℕ) (more : List ℕ) → is_comparison sign ≡ true → text ≡ sign ∷ more → wanted_read place false text ≡ words_read place text
+wanted_compares : (place : ℕ → ℕ) (text : List ℕ) (sign : ℕ) (more : List ℕ) → is_comparison sign ≡ true → text ≡ sign ∷ more → wanted_read place false text ≡ two_words_read place text
 unfolding wanted_read
 wanted_compares place text sign more h e =
-    subst (λ t. wanted_read place false t ≡ words_read place t) (sym e) (rw (comparison_no_joint sign h, comparison_no_equals sign h, h) refl)
+    subst (λ t. wanted_read place false t ≡ two_words_read place t) (sym e) (rw (comparison_no_joint sign h, comparison_no_equals sign h, h) refl)
 
 signs_give : (l : Laws) (place : ℕ → ℕ) (word text : List ℕ) (version build : Option (List ℕ)) → IsWords word text version build → BeginsClause word → wanted_read place false text ≡ Ok (version, build)
 signs_give l place word text version build w (compares sign rest h) =
@@ -260,7 +261,7 @@ one_word l place tail v r spaces is free h =
     let word : List ℕ = equals ∷ tail in
     wanted_equals place word tail refl
     ∙ ap (equals_cut place word) (cut_none l word spaces)
-    ∙ ap (λ k. cond k (words_read place word) (joined_read place word)) (ap (list_any is_sign) is ∙ none_any is_sign v free)
+    ∙ ap (λ k. cond k (two_words_read place word) (joined_read place word)) (ap (list_any is_sign) is ∙ none_any is_sign v free)
     ∙ h
 
 joined_one : (place : ℕ → ℕ) (tail : List ℕ) (cut : Option (List ℕ × List ℕ)) (r : VersionAndBuild) → begins_with equals tail ≡ false → cut_first equals tail ≡ cut → joined_cut place (equals ∷ tail) 1 cut ≡ Ok r
@@ -284,13 +285,13 @@ starts_gives l place v clause p w =
     let cut : cut_first equals v ≡ None = (l.no_first equals v).1 (plain_equals v p.0) in
     let first : begins_with equals v ≡ false = no_equals_first v (plain_equals v p.0) in
     one_word l place v v (Some clause, None) (refl, p.1) (version_one v first ∙ ap (λ c. before_equals c v) cut) (plain_signs v p)
-    (joined_one place v None (Some clause, None) first cut (ap (λ (r : SpecRead (List ℕ)). r >>= λ c. Ok (Some c, None)) (clause_gives place 0 0 (equals ∷ v) clause w)))
+    (joined_one place v None (Some clause, None) first cut (ap (λ (r : SpecRead (List ℕ)). r >>= λ c. Ok (Some c, None)) (clause_gives l place 0 0 (equals ∷ v) clause w)))
 
 equal_is_read : (l : Laws) (place : ℕ → ℕ) (v clause : List ℕ) → IsPlainVersion v → IsClauseOf (equals ∷ equals ∷ v) clause → wanted_read place false (equals ∷ equals ∷ v) ≡ Ok (Some clause, None)
 equal_is_read l place v clause p w =
     let cut : cut_first equals v ≡ None = (l.no_first equals v).1 (plain_equals v p.0) in
     one_word l place (equals ∷ v) v (Some clause, None) (refl, (refl, p.1)) (ap (λ c. before_equals c v) cut) (plain_signs v p)
-    (joined_two place v None (Some clause, None) cut (ap (λ (r : SpecRead (List ℕ)). r >>= λ c. Ok (Some c, None)) (clause_gives place 0 0 (equals ∷ equals ∷ v) clause w)))
+    (joined_two place v None (Some clause, None) cut (ap (λ (r : SpecRead (List ℕ)). r >>= λ c. Ok (Some c, None)) (clause_gives l place 0 0 (equals ∷ equals ∷ v) clause w)))
 
 cut_build : (l : Laws) (v build : List ℕ) → IsPlainVersion v → cut_first equals (v ++ equals ∷ build) ≡ Some (v, build)
 cut_build l v build p = (l.first equals (v ++ equals ∷ build) v build).1 (refl, plain_equals v p.0)
@@ -302,7 +303,7 @@ build_free v build p k = none_in_both (is_byte space) v (equals ∷ build) p.1 (
 equal_some : (l : Laws) (v clause : List ℕ) → IsClauseOf (equal_to v) clause → v ≢ []
 equal_some l v clause w e =
     let bad : IsClauseOf (codes "==") clause = subst (λ t. IsClauseOf (equal_to t) clause) e w in
-    let ends = l.back clause bad.1 in
+    let ends = l.back clause (l.right clause bad.1) in
     true≢false (ap (ends_with 61) (sym bad.0) ∙ ends.4)
 
 starts_build_gives : (l : Laws) (place : ℕ → ℕ) (v clause build : List ℕ) → IsPlainVersion v → IsClauseOf (equal_to v) clause → IsFreeWord bars_build build
@@ -313,7 +314,7 @@ starts_build_gives l place v clause build p w k =
     let first : begins_with equals tail ≡ false = not_first v (equal_some l v clause w) (plain_equals v p.0) in
     one_word l place tail v (Some clause, Some build) (refl, build_free v build p k) (version_one tail first ∙ ap (λ c. before_equals c tail) cut) (plain_signs v p)
     (joined_one place tail (Some (v, build)) (Some clause, Some build) first cut
-    (ap (λ (r : SpecRead (List ℕ)). r >>= λ c. build_at (place (1 + length v + 1)) build >>= λ b. Ok (Some c, Some b)) (equal_gives place 1 v clause w)
+    (ap (λ (r : SpecRead (List ℕ)). r >>= λ c. build_at (place (1 + length v + 1)) build >>= λ b. Ok (Some c, Some b)) (equal_gives l place 1 v clause w)
     ∙ ap (λ (r : SpecRead (List ℕ)). r >>= λ b. Ok (Some clause, Some b)) (build_reads (place (1 + length v + 1)) build k)))
   where
     not_first : (v : List ℕ) → v ≢ [] → IsFreeOf equals v → begins_with equals (v ++ equals ∷ build) ≡ false
@@ -327,7 +328,7 @@ equal_build_gives l place v clause build p w k =
     let cut : cut_first equals tail ≡ Some (v, build) = cut_build l v build p in
     one_word l place (equals ∷ tail) v (Some clause, Some build) (refl, (refl, build_free v build p k)) (ap (λ c. before_equals c tail) cut) (plain_signs v p)
     (joined_two place tail (Some (v, build)) (Some clause, Some build) cut
-    (ap (λ (r : SpecRead (List ℕ)). r >>= λ c. build_at (place (2 + length v + 1)) build >>= λ b. Ok (Some c, Some b)) (clause_gives place 0 0 (codes "==" ++ v) clause w)
+    (ap (λ (r : SpecRead (List ℕ)). r >>= λ c. build_at (place (2 + length v + 1)) build >>= λ b. Ok (Some c, Some b)) (clause_gives l place 0 0 (codes "==" ++ v) clause w)
     ∙ ap (λ (r : SpecRead (List ℕ)). r >>= λ b. Ok (Some clause, Some b)) (build_reads (place (2 + length v + 1)) build k)))
 
 wanted_gives : (l : Laws) (place : ℕ → ℕ) (apart : Bool) (text : List ℕ) (version build : Option (List ℕ)) → Follows apart text version build → wanted_read place apart text ≡ Ok (version, build)
@@ -335,9 +336,9 @@ unfolding wanted_read
 wanted_gives l place apart text version build (end k) = refl
 wanted_gives l place apart text version build (starts v clause p w) = starts_gives l place v clause p w
 wanted_gives l place apart text version build (equal v clause p w) = equal_is_read l place v clause p w
-wanted_gives l place apart text version build (starts_build v clause b p w k) = starts_build_gives l place v clause b p w k
+wanted_gives l place apart text version build (starts_build v clause b p w k) = starts_build_gives l place v clause b p (equal_out v clause w) k
 wanted_gives l place apart text version build (equal_build v clause b p w k) = equal_build_gives l place v clause b p w k
-wanted_gives l place apart text version build (spaced_equal v clause b p w k) = spaced_equal_gives l place v clause b p w k
+wanted_gives l place apart text version build (spaced_equal v clause b p w k) = spaced_equal_gives l place v clause b p (equal_out v clause w) k
 wanted_gives l place apart text version build (spaced word t v b w other) = spaced_gives l place word text version build w other
 wanted_gives l place apart text version build (signs word t v b w begins) = signs_give l place word text version build w begins
 
@@ -356,8 +357,8 @@ some_length [] some = absurd (some refl)
 some_length (b ∷ bs) some = grind (arith, nat_tests)
 
 named_gives : (l : Laws) (given : Given) (at : ℕ) (text name : List ℕ) (version build : Option (List ℕ)) → IsNamed text name version build
-    → named_read given at text ≡ Ok (name, with_wanted given (version, build))
-unfolding named_read
+    → name_read given at text ≡ Ok (name, with_wanted given (version, build))
+unfolding name_read
 named_gives l given at text name version build (named written rest v b some free ends follows) =
     let fault : ℕ × SpecWhy = (at, Name) in
     let whole : List ℕ = written ++ rest in
@@ -406,7 +407,7 @@ front_gives l text found (front_alone t name version build none is) =
     ap (front_cut t) (colons_absent t none) ∙ named_gives l nothing 0 t name version build is
 front_gives l text found (in_channel channel t name version build free is) =
     ap (front_cut (channel ++ (codes "::" ++ t))) (colons_cut channel t (fewer bars_channel (is_byte colon) no_colon channel free.1))
-    ∙ ap (λ (r : SpecRead Given). r >>= λ given. named_read given (length channel + 2) t) (channel_gives l channel free)
+    ∙ ap (λ (r : SpecRead Given). r >>= λ given. name_read given (length channel + 2) t) (channel_gives l channel free)
     ∙ named_gives l (record nothing { channel = Some channel }) (length channel + 2) t name version build is
 front_gives l text found (in_subdir channel subdir t name version build free also is) =
     let before : List ℕ = channel ++ slash ∷ subdir in
@@ -414,7 +415,7 @@ front_gives l text found (in_subdir channel subdir t name version build free als
     none_in_both (is_byte colon) channel (slash ∷ subdir) (fewer bars_channel (is_byte colon) no_colon channel free.1) (refl, fewer bars_channel (is_byte colon) no_colon subdir also.1)
     in
     ap (front_cut (before ++ (codes "::" ++ t))) (colons_cut before t bare)
-    ∙ ap (λ (r : SpecRead Given). r >>= λ given. named_read given (length before + 2) t) (subdir_gives l channel subdir free also)
+    ∙ ap (λ (r : SpecRead Given). r >>= λ given. name_read given (length before + 2) t) (subdir_gives l channel subdir free also)
     ∙ named_gives l (record nothing { channel = Some channel; subdir = Some subdir }) (length before + 2) t name version build is
 
 -- ---- the brackets
@@ -451,25 +452,25 @@ key_gives given behind at key place written value found e new h =
     let fault : ℕ × SpecWhy = (at, Key) in
     ap (item_key given at (Some key)) e ∙ ap (λ k. cond k (Err fault) (put given key at (place, value))) new ∙ h
 
-item_gives : (given behind : Given) (at : ℕ) (item : List ℕ) → IsItem given item behind → item_read given at item ≡ Ok behind
+item_gives : (l : Laws) (given behind : Given) (at : ℕ) (item : List ℕ) → IsItem given item behind → item_read given at item ≡ Ok behind
 unfolding item_read put clause_value
-item_gives given behind at item (item_version g written value clause new is w) =
+item_gives l given behind at item (item_version g written value clause new is w) =
     let v = value_gives (at + 7 + 1) written value is in
     key_gives g behind at keys.Version v.0 written value (value_of (at + 7 + 1) written) v.1 (ap is_some new)
-    (ap (λ (r : SpecRead (List ℕ)). r >>= λ x. Ok (record g { version = Some x })) (clause_gives (λ i. v.0 + place_of value i) 0 0 (kept value) clause w))
-item_gives given behind at item (item_build g written value new is free) =
+    (ap (λ (r : SpecRead (List ℕ)). r >>= λ x. Ok (record g { version = Some x })) (clause_gives l (λ i. v.0 + place_of value i) 0 0 (kept value) clause w))
+item_gives l given behind at item (item_build g written value new is free) =
     let v = value_gives (at + 5 + 1) written value is in
     key_gives g behind at keys.Build v.0 written value (value_of (at + 5 + 1) written) v.1 (ap is_some new)
     (ap (λ (r : SpecRead (List ℕ)). r >>= λ x. Ok (record g { build = Some x })) (build_reads v.0 value free))
-item_gives given behind at item (item_number g written value number new is n) =
+item_gives l given behind at item (item_number g written value number new is n) =
     let v = value_gives (at + 12 + 1) written value is in
     key_gives g behind at keys.BuildNumber v.0 written value (value_of (at + 12 + 1) written) v.1 (ap is_some new)
     (ap (λ (o : Option ℕ). number_or at o >>= λ x. Ok (record g { number = Some x })) n)
-item_gives given behind at item (item_channel g written value new is free) =
+item_gives l given behind at item (item_channel g written value new is free) =
     let v = value_gives (at + 7 + 1) written value is in
     key_gives g behind at keys.Channel v.0 written value (value_of (at + 7 + 1) written) v.1 (ap is_some new)
     (ap (λ (r : SpecRead (List ℕ)). r >>= λ x. Ok (record g { channel = Some x })) (channel_reads v.0 value free))
-item_gives given behind at item (item_subdir g written value new is free) =
+item_gives l given behind at item (item_subdir g written value new is free) =
     let v = value_gives (at + 6 + 1) written value is in
     key_gives g behind at keys.Subdir v.0 written value (value_of (at + 6 + 1) written) v.1 (ap is_some new)
     (ap (λ (r : SpecRead (List ℕ)). r >>= λ x. Ok (record g { subdir = Some x })) (channel_reads v.0 value free))
@@ -546,18 +547,18 @@ closed_item given behind item (item_number g written value number new is n) = cl
 closed_item given behind item (item_channel g written value new is free) = closed_both (codes "channel=") written (all_bare (codes "channel=") refl) (closed_value written value is)
 closed_item given behind item (item_subdir g written value new is free) = closed_both (codes "subdir=") written (all_bare (codes "subdir=") refl) (closed_value written value is)
 
-items_give : (before behind : Given) (at : ℕ) (text : List ℕ) → IsItems before text behind → items_read before at (items_of None text) ≡ Ok behind
+items_give : (l : Laws) (before behind : Given) (at : ℕ) (text : List ℕ) → IsItems before text behind → items_read before at (items_of None text) ≡ Ok behind
 unfolding items_read IsClosed
-items_give before behind at text (items_last g b item is) =
+items_give l before behind at text (items_last g b item is) =
     let one : items_of None item ≡ item ∷ [] =
     ap (items_of None) (sym (append-nil item)) ∙ closed_item g b item is [] ∙ front_on_next item []
     in
-    ap (items_read g at) one ∙ ap (λ (r : SpecRead Given). r >>= λ given. Ok given) (item_gives g b at item is)
-items_give before behind at text (items_more g next b item rest is later) =
+    ap (items_read g at) one ∙ ap (λ (r : SpecRead Given). r >>= λ given. Ok given) (item_gives l g b at item is)
+items_give l before behind at text (items_more g next b item rest is later) =
     let first : items_of None (item ++ comma ∷ rest) ≡ item ∷ items_of None rest = closed_item g next item is (comma ∷ rest) ∙ front_on_next item (items_of None rest) in
     ap (items_read g at) first
-    ∙ ap (λ (r : SpecRead Given). r >>= λ given. items_read given (at + length item + 1) (items_of None rest)) (item_gives g next at item is)
-    ∙ items_give next b (at + length item + 1) rest later
+    ∙ ap (λ (r : SpecRead Given). r >>= λ given. items_read given (at + length item + 1) (items_of None rest)) (item_gives l g next at item is)
+    ∙ items_give l next b (at + length item + 1) rest later
 
 -- ---- the whole
 
@@ -575,10 +576,12 @@ brackets_absent l text h = by (without_last close_bracket text) refl
 
 pub spec_gives : (l : Laws) (text : List ℕ) (parts : Parts) → IsSpecText text parts → spec_read text ≡ Ok parts
 unfolding spec_read
-spec_gives l text parts (plain t front none is) =
-    ap (spec_cut t) (brackets_absent l t none) ∙ ap (λ (r : SpecRead Front). r >>= λ front. Ok (parts_of front nothing)) (front_gives l t front is)
-spec_gives l text parts (bracketed before inside front given free is items) =
+spec_gives l text parts (plain t front p none is are) =
+    ap (spec_cut t) (brackets_absent l t none) ∙ ap (λ (r : SpecRead Front). r >>= λ front. Ok (spec_parts front nothing)) (front_gives l t front is)
+    ∙ ap Ok (sym (are_parts l front nothing p (front_right l t front is) tt are))
+spec_gives l text parts (bracketed before inside front given p free is items are) =
     let t : List ℕ = before ++ open_bracket ∷ inside in
     ap (spec_cut (t ++ close_bracket ∷ [])) (ap (option_and_then (cut_last open_bracket)) (last_off close_bracket t) ∙ (l.last open_bracket t before inside).1 (refl, free))
-    ∙ ap (λ (r : SpecRead Front). r >>= λ front. items_read nothing (length before + 1) (items_of None inside) >>= λ given. Ok (parts_of front given)) (front_gives l before front is)
-    ∙ ap (λ (r : SpecRead Given). r >>= λ given. Ok (parts_of front given)) (items_give nothing given (length before + 1) inside items)
+    ∙ ap (λ (r : SpecRead Front). r >>= λ front. items_read nothing (length before + 1) (items_of None inside) >>= λ given. Ok (spec_parts front given)) (front_gives l before front is)
+    ∙ ap (λ (r : SpecRead Given). r >>= λ given. Ok (spec_parts front given)) (items_give l nothing given (length before + 1) inside items)
+    ∙ ap Ok (sym (are_parts l front given p (front_right l before front is) (items_right l nothing given inside items tt) are))

@@ -8,11 +8,11 @@ use Rattle.conda_base.specs.Texts.{IsFreeOf, is_byte}
 use Rattle.conda_version.specs.Text.{trimmed}
 use Rattle.conda_clause.specs.Clause.{beside_build}
 use Rattle.conda_spec.specs.declared.given.Given.{Given}
-use Rattle.conda_spec.specs.Grammar.{IsFront, IsSpecText}
+use Rattle.conda_spec.specs.Grammar.{AreParts, IsFront, IsSpecText}
 use Rattle.conda_spec.specs.Grammar.IsFront.{alone, in_channel}
 use Rattle.conda_spec.specs.Grammar.IsSpecText.{bracketed, plain}
-use Rattle.conda_spec.specs.Parts.{IsFreeWord, IsSpec, NoneOf, Parts, bars_build, bars_channel, is_name_char}
-use Rattle.conda_spec.specs.Reading.{Front, nothing, parts_of, spec_read}
+use Rattle.conda_spec.specs.Parts.{bars_build, bars_channel, Front, is_name_char, IsFreeWord, IsSpec, NoneOf, nothing, Parts}
+use Rattle.conda_spec.specs.Reading.{spec_parts, spec_read}
 use Rattle.conda_spec.specs.Text.{brackets_text, channel_text, spec_text, word_text}
 use Rattle.conda_spec.proofs.LowerLaws.{Laws}
 use Rattle.conda_spec.proofs.PieceLemmas.{AllOf, fewer, none_in_both, none_of_all}
@@ -20,19 +20,20 @@ use Rattle.conda_spec.proofs.KeptLemmas.{is_space}
 use Rattle.conda_spec.proofs.WordLemmas.{CanFollow, IsClauseWord, clause_spaces, follows, named_by, no_bracket, no_colon, no_space_in_build}
 use Rattle.conda_spec.proofs.BracketLemmas.{HasBrackets, brackets_hold, brackets_hold_no_space, inner, items_give, no_opening}
 use Rattle.conda_spec.proofs.GivesLemmas.{spec_gives}
+use Rattle.conda_spec.proofs.PartLemmas.{front_right, items_right, parts_are}
 use Rattle.conda_spec.proofs.TrimLemmas.{BeginsBare, EndsBare, begins_with_word, ends_by, ends_by_word, trimmed_same}
 
 -- The parts.
 
 -- where a build is given, the version is as it is beside one
-abbrev pub IsBeside : Option (List ℕ) → Option (List ℕ) → Type 0
-IsBeside build version = IsSome build → IfSome version (λ clause. beside_build clause ≡ clause) × IsSome version
+abbrev pub IsTogether : Option (List ℕ) → Option (List ℕ) → Type 0
+IsTogether build version = IsSome build → IfSome version (λ clause. beside_build clause ≡ clause) × IsSome version
 
 front_of : Option (List ℕ) → List ℕ → Option (List ℕ) → Option (List ℕ) → Front
 front_of channel name version build = (name, record { channel = channel; subdir = None; version = version; build = build; number = None })
 
-same_parts : (channel subdir : Option (List ℕ)) (name : List ℕ) (version build : Option (List ℕ)) (number : Option ℕ) → IsBeside build version
-    → parts_of (front_of channel name version build) (record nothing { number = number; subdir = subdir })
+same_parts : (channel subdir : Option (List ℕ)) (name : List ℕ) (version build : Option (List ℕ)) (number : Option ℕ) → IsTogether build version
+    → spec_parts (front_of channel name version build) (record nothing { number = number; subdir = subdir })
     ≡ record { channel = channel; subdir = subdir; name = name; version = version; build = build; number = number }
 unfolding front_of
 same_parts channel None name version None number h = refl
@@ -100,7 +101,7 @@ form_is l number subdir parts n s h follow = subst (λ t. IsSpecText t parts) (s
     closes : IsFreeOf close_bracket (front_text parts)
     closes = front_closes parts.channel parts.name parts.version parts.build h.channel h.name.1 follow
 
-    whole : parts_of (front_of parts.channel parts.name parts.version parts.build) (record nothing { number = parts.number; subdir = parts.subdir }) ≡ parts
+    whole : spec_parts (front_of parts.channel parts.name parts.version parts.build) (record nothing { number = parts.number; subdir = parts.subdir }) ≡ parts
     whole = same_parts parts.channel parts.subdir parts.name parts.version parts.build parts.number h.together
 
     in_brackets : HasBrackets parts.number parts.subdir → IsSpecText (front_text parts ++ brackets_text parts.number parts.subdir) parts
@@ -110,9 +111,10 @@ form_is l number subdir parts n s h follow = subst (λ t. IsSpecText t parts) (s
         let at : (text ++ open_bracket ∷ inside) ++ close_bracket ∷ [] ≡ text ++ brackets_text parts.number parts.subdir =
         append_assoc text (open_bracket ∷ inside) (close_bracket ∷ []) ∙ ap (λ t. text ++ t) (sym (brackets_hold parts.number parts.subdir some))
         in
-        subst (IsSpecText (text ++ brackets_text parts.number parts.subdir)) whole
-        (subst (λ t. IsSpecText t (parts_of front given)) at
-        (bracketed text inside front given (no_opening l parts.number parts.subdir h.number h.subdir) is (items_give l parts.number parts.subdir some h.number h.subdir)))
+        let items = items_give l parts.number parts.subdir some h.number h.subdir in
+        subst (λ t. IsSpecText t parts) at
+        (bracketed text inside front given parts (no_opening l parts.number parts.subdir h.number h.subdir) is items
+        (subst (AreParts front given) whole (parts_are l front given (front_right l text front is) (items_right l nothing given inside items tt))))
 
     by : (number : Option ℕ) (subdir : Option (List ℕ)) → parts.number ≡ number → parts.subdir ≡ subdir → IsSpecText (front_text parts ++ brackets_text parts.number parts.subdir) parts
     by None None n s =
@@ -121,8 +123,8 @@ form_is l number subdir parts n s h follow = subst (λ t. IsSpecText t parts) (s
         ap (λ (o : Option ℕ). record nothing { number = o }) (sym n) ∙ ap (λ (o : Option (List ℕ)). record nothing { number = parts.number; subdir = o }) (sym s)
         in
         subst (λ t. IsSpecText t parts) (sym (ap (λ t. text ++ t) none ∙ append-nil text))
-        (subst (IsSpecText text) (ap (parts_of front) same ∙ whole)
-        (plain text front (λ before inside. not_round close_bracket text (before ++ open_bracket ∷ inside) [] closes) is))
+        (plain text front parts (λ before inside. not_round close_bracket text (before ++ open_bracket ∷ inside) [] closes) is
+        (subst (AreParts front nothing) (ap (spec_parts front) same ∙ whole) (parts_are l front nothing (front_right l text front is) tt)))
     by (Some number) subdir n s = in_brackets (subst (λ (o : Option ℕ). HasBrackets o parts.subdir) (sym n) tt)
     by None (Some subdir) n s = in_brackets (subst (λ (o : Option ℕ). HasBrackets o parts.subdir) (sym n) (subst (HasBrackets None) (sym s) tt))
 

@@ -10,6 +10,7 @@ pub mod ItemLemmas
 pub mod EqualLemmas
 pub mod LawLemmas
 pub mod LowerLaws
+pub mod PartLemmas
 pub mod OnlyLemmas
 pub mod GivesLemmas
 pub mod WordLemmas

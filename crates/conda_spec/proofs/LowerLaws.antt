@@ -6,7 +6,9 @@ use Rattle.std.specs.Str.Parse.{digits_value}
 use Rattle.conda_base.specs.Numbers.{digits_below, is_digits, number_below}
 use Rattle.conda_base.specs.Signs.{bar, comma, equals, greater, less}
 use Rattle.conda_base.specs.Texts.{IsFreeOf, cut_first, cut_last, ends_with}
-use Rattle.conda_clause.specs.Clause.{clause_fault, is_clause_char}
+use Rattle.conda_clause.specs.Beside.{IsBesideBuild}
+use Rattle.conda_clause.specs.Clause.{beside_build, clause_fault, is_clause_char}
+use Rattle.conda_clause.specs.Tree.{IsClause}
 
 pub record Laws : Type 0 where
   pub first : (mark : ℕ) (text before behind : List ℕ) → (cut_first mark text ≡ Some (before, behind)) ↔ ((text ≡ before ++ mark ∷ behind) × IsFreeOf mark before)
@@ -19,3 +21,6 @@ pub record Laws : Type 0 where
   pub chars : (text : List ℕ) → clause_fault text ≡ None → list_all is_clause_char text ≡ true
   pub front : (text : List ℕ) → clause_fault text ≡ None → (bs : List ℕ) → (text ≡ comma ∷ bs → ⊥) × (text ≡ bar ∷ bs → ⊥)
   pub back : (text : List ℕ) → clause_fault text ≡ None → (ends_with comma text ≡ false) × (ends_with bar text ≡ false) × (ends_with less text ≡ false) × (ends_with greater text ≡ false) × (ends_with equals text ≡ false)
+  pub clause : (text : List ℕ) → clause_fault text ≡ None → IsClause text
+  pub right : (text : List ℕ) → IsClause text → clause_fault text ≡ None
+  pub beside : (text written : List ℕ) → clause_fault text ≡ None → IsBesideBuild text written ↔ (written ≡ beside_build text)

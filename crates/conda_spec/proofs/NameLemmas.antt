@@ -9,9 +9,9 @@ use Rattle.std.proofs.lemmas.Bool.Decides.{nat_tests}
 use Rattle.std.proofs.lemmas.List.Sums.{prefix_len-le-length, prefix_len_passes}
 use Rattle.std.proofs.lemmas.Str.{IsCharBoundary-after_ascii, IsCharBoundary-start}
 use Rattle.conda_spec.specs.declared.given.Given.{Given}
-use Rattle.conda_spec.specs.Good.{IsFront, IsGiven, IsVersionAndBuild}
-use Rattle.conda_spec.specs.Parts.{is_name_char}
-use Rattle.conda_spec.specs.Reading.{VersionAndBuild, ends_name, with_wanted}
+use Rattle.conda_spec.specs.Good.{IsGoodFront, IsGoodGiven, IsVersionAndBuild}
+use Rattle.conda_spec.specs.Parts.{ends_name, is_name_char}
+use Rattle.conda_spec.specs.Reading.{VersionAndBuild, with_wanted}
 
 -- a character of a name is ASCII
 above : (c : ℕ) → 128 ≤ c → is_name_char c ≡ false
@@ -66,12 +66,12 @@ some_name [] h = absurd (omega (arith, h))
 some_name (b ∷ bs) h = λ e. cc
 
 -- what stands before the brackets, by its parts
-pub front_is : (given : Given) (wanted : VersionAndBuild) (s name lowered : List ℕ) (all : Given) → IsGiven given → IsVersionAndBuild wanted → 0 < length name → name ≡ before_first ends_name s → lowered ≡ map to_ascii_lowercase name → all ≡ with_wanted given wanted → IsFront (lowered, all)
+pub front_is : (given : Given) (wanted : VersionAndBuild) (s name lowered : List ℕ) (all : Given) → IsGoodGiven given → IsVersionAndBuild wanted → 0 < length name → name ≡ before_first ends_name s → lowered ≡ map to_ascii_lowercase name → all ≡ with_wanted given wanted → IsGoodFront (lowered, all)
 front_is given wanted s name lowered all g w some n l a =
     let chars : AllByRecursion (λ b. is_name_char b ≡ true) lowered = rw (l, n) (name_chars s) in
     let more : lowered ≢ [] = rw l (some_name name some) in
-    let P : Given → Type 0 = IsGiven in
-    let good : IsGiven (with_wanted given wanted) = record {
+    let P : Given → Type 0 = IsGoodGiven in
+    let good : IsGoodGiven (with_wanted given wanted) = record {
       channel = g.channel;
       subdir = g.subdir;
       version = w.version;

@@ -22,7 +22,7 @@ use Rattle.conda_spec.specs.declared.given.Given.{Given}
 use Rattle.conda_spec.specs.declared.given.ItemKey.{ItemKey}
 use Rattle.conda_spec.specs.declared.given.ItemKey.TheVariants as keys
 use Rattle.conda_spec.specs.Cuts.{cut_colons, without_last}
-use Rattle.conda_spec.specs.Grammar.{BeginsClause, Follows, IsFront, IsItem, IsItems, IsNamed, IsPlainVersion, IsSpecText, IsValue, IsWords, IsClauseOf, ends_here}
+use Rattle.conda_spec.specs.Grammar.{BeginsClause, Follows, IsEqualClause, IsFront, IsItem, IsItems, IsNamed, IsPlainVersion, IsSpecText, IsValue, IsWords, IsClauseOf, ends_here}
 use Rattle.conda_spec.specs.Grammar.BeginsClause.{behind_one, behind_two, compares}
 use Rattle.conda_spec.specs.Grammar.Follows.{end, equal, equal_build, signs, spaced, spaced_equal, starts, starts_build}
 use Rattle.conda_spec.specs.Grammar.IsFront.{alone as front_alone, in_channel, in_subdir}
@@ -32,10 +32,11 @@ use Rattle.conda_spec.specs.Grammar.IsNamed.{named}
 use Rattle.conda_spec.specs.Grammar.IsSpecText.{bracketed, plain}
 use Rattle.conda_spec.specs.Grammar.IsValue.{bare, quoted as in_quotes}
 use Rattle.conda_spec.specs.Grammar.IsWords.{alone, with_build}
-use Rattle.conda_spec.specs.Parts.{IsFreeWord, NoneOf, Parts, bars_build, bars_channel}
-use Rattle.conda_spec.specs.Reading.{Front, SpecRead, VersionAndBuild, bars_bare, before_equals, ends_item, quote_behind, brackets_of, build_at, build_word, channel_at, channel_cut, channel_read, clause_at, clause_value, ends_name, equal_at, equal_to, equals_cut, equals_read, followed_read, front_cut, front_read, has_key, is_comparison, is_equal_word, is_free, is_quote, is_sign, is_sign_or_equals, item_cut, item_key, item_read, items_of, items_read, joined_cut, joined_read, key_of, last_word, lead_of, named_read, nothing, number_or, parts_of, put, quoted, spaced_cut, spaced_read, spec_cut, spec_read, value_of, version_of, wanted_read, with_wanted, words_cut, words_read, without_quote}
+use Rattle.conda_spec.specs.Parts.{bars_bare, bars_build, bars_channel, ends_name, Front, is_comparison, is_quote, is_sign, is_sign_or_equals, IsFreeWord, NoneOf, nothing, Parts}
+use Rattle.conda_spec.specs.Reading.{SpecRead, VersionAndBuild, before_equals, ends_item, quote_behind, brackets_of, build_at, build_word, channel_at, channel_cut, channel_read, clause_at, clause_value, equal_at, equal_to, equals_cut, equals_read, followed_read, front_cut, front_read, has_key, is_equal_word, is_free, item_cut, item_key, item_read, items_of, items_read, joined_cut, joined_read, key_of, last_word, lead_of, name_read, number_or, spec_parts, put, quoted, spaced_cut, spaced_read, spec_cut, spec_read, value_of, version_of, wanted_read, with_wanted, words_cut, two_words_read, without_quote}
 use Rattle.conda_spec.proofs.LowerLaws.{Laws}
 use Rattle.conda_spec.proofs.ItemLemmas.{comma_of}
+use Rattle.conda_spec.proofs.PartLemmas.{equal_in, front_right, items_right, parts_are}
 use Rattle.conda_spec.proofs.SeamLemmas.{last_off}
 use Rattle.conda_spec.proofs.ValueLemmas.{free_is, unless_ok}
 
@@ -68,14 +69,14 @@ free_only bars fault (b ∷ rest) x h =
     (same, subst (IsFreeWord bars) same (free_is bars (b ∷ rest) (omega arith) (not-true (list_any bars (b ∷ rest)) (second_so (nat_lt 0 (length (b ∷ rest))) (not (list_any bars (b ∷ rest))) p.0))))
 
 -- a version clause that is read is written by the text
-clause_only : (place : ℕ → ℕ) (start added : ℕ) (text clause : List ℕ) → clause_at place start added text ≡ Ok clause → IsClauseOf text clause
+clause_only : (l : Laws) (place : ℕ → ℕ) (start added : ℕ) (text clause : List ℕ) → clause_at place start added text ≡ Ok clause → IsClauseOf text clause
 unfolding clause_at
-clause_only place start added text clause h =
+clause_only l place start added text clause h =
     let placed : Option (ℕ × SpecWhy) → Option (ℕ × SpecWhy) = option_map (λ fault. (place (start + (fault.0 - added)), fault.1)) in
     let low : List ℕ = map to_ascii_lowercase text in
     let found = unless_ok (placed (clause_fault low)) low clause h in
     let good : clause_fault low ≡ None = map_none (λ (fault : ℕ × SpecWhy). (place (start + (fault.0 - added)), fault.1)) (clause_fault low) found.0 in
-    (sym found.1, sym (ap clause_fault found.1) ∙ good)
+    (sym found.1, l.clause clause (sym (ap clause_fault found.1) ∙ good))
   where
     map_none : {A B : Type 0} (f : A → B) (o : Option A) → option_map f o ≡ None → o ≡ None
     map_none f None e = refl
@@ -118,15 +119,15 @@ cut_is l text = by (cut_first space text) refl
     by None e = (l.no_first space text).0 e
     by (Some cut) e = (l.first space text cut.0 cut.1).0 e
 
-words_only : (place : ℕ → ℕ) (text : List ℕ) (cut : Option (List ℕ × List ℕ)) (r : VersionAndBuild) → CutAtSpace text cut → words_cut place text cut ≡ Ok r → IsWords (word_of text cut) text r.0 r.1
+words_only : (l : Laws) (place : ℕ → ℕ) (text : List ℕ) (cut : Option (List ℕ × List ℕ)) (r : VersionAndBuild) → CutAtSpace text cut → words_cut place text cut ≡ Ok r → IsWords (word_of text cut) text r.0 r.1
 unfolding CutAtSpace word_of
-words_only place text None r at h =
+words_only l place text None r at h =
     let found = bind_ok (clause_at place 0 0 text) _ r h in
-    let good = clause_only place 0 0 text found.0 found.1 in
+    let good = clause_only l place 0 0 text found.0 found.1 in
     subst (λ (w : VersionAndBuild). IsWords text text w.0 w.1) (ok_same (Some found.0, None) r found.2) (alone text found.0 good)
-words_only place text (Some cut) r at h =
+words_only l place text (Some cut) r at h =
     let found = bind_ok (clause_at place 0 0 cut.0) _ r h in
-    let good = clause_only place 0 0 cut.0 found.0 found.1 in
+    let good = clause_only l place 0 0 cut.0 found.0 found.1 in
     let next = bind_ok (build_word place (length cut.0 + 1) cut.1) _ r found.2 in
     let free = word_only place (length cut.0 + 1) cut.1 next.0 next.1 in
     let whole : cut.0 ++ space ∷ next.0 ≡ text = sym (at.0 ∙ ap (λ b. cut.0 ++ space ∷ b) free.0) in
@@ -168,26 +169,26 @@ equal_word (b ∷ bs) h = by (b == equals) refl (list_any is_sign_or_equals bs) 
     by false e m f g = absurd (true≢false (sym g))
 
 -- "equal to V"
-equal_only : (place : ℕ → ℕ) (start : ℕ) (v clause : List ℕ) → equal_at place start v ≡ Ok clause → IsClauseOf (equal_to v) clause
+equal_only : (l : Laws) (place : ℕ → ℕ) (start : ℕ) (v clause : List ℕ) → equal_at place start v ≡ Ok clause → IsEqualClause v clause
 unfolding equal_at
-equal_only place start v clause h = by (ends_with 42 v) h
+equal_only l place start v clause h = equal_in v clause (by (ends_with 42 v) h)
   where
     by : (k : Bool) → cond k (clause_at place start 0 v) (clause_at place start 2 (codes "==" ++ v)) ≡ Ok clause → IsClauseOf (cond k v (codes "==" ++ v)) clause
-    by true e = clause_only place start 0 v clause e
-    by false e = clause_only place start 2 (codes "==" ++ v) clause e
+    by true e = clause_only l place start 0 v clause e
+    by false e = clause_only l place start 2 (codes "==" ++ v) clause e
 
 less_free : (b : ℕ) (bs : List ℕ) → IsFreeOf space (b ∷ bs) → IsFreeOf space bs
 less_free b bs h = h.1
 
 pub spaced_only : (place : ℕ → ℕ) (text : List ℕ) (r : VersionAndBuild) → Laws → spaced_read place text ≡ Ok r → Follows true text r.0 r.1
-unfolding spaced_read words_read CutAtSpace word_of IsOtherWord
+unfolding spaced_read two_words_read CutAtSpace word_of IsOtherWord
 spaced_only place text r l h = by (cut_first space text) refl h (cut_is l text)
   where
     by : (cut : Option (List ℕ × List ℕ)) → cut_first space text ≡ cut → spaced_cut place text cut ≡ Ok r → CutAtSpace text cut → Follows true text r.0 r.1
     by None e g at =
         let read : words_cut place text None ≡ Ok r = sym (ap (words_cut place text) e) ∙ g in
-        let all : IsWords text text r.0 r.1 = words_only place text None r at read in
-        alone_follows all (alone_is (words_only place text None r at read) read)
+        let all : IsWords text text r.0 r.1 = words_only l place text None r at read in
+        alone_follows all (alone_is (words_only l place text None r at read) read)
       where
         alone_is : IsWords text text r.0 r.1 → words_cut place text None ≡ Ok r → r.1 ≡ None
         alone_is w q =
@@ -199,7 +200,7 @@ spaced_only place text r l h = by (cut_first space text) refl h (cut_is l text)
     by (Some cut) e g at = by_word (is_equal_word cut.0) refl g
       where
         by_word : (k : Bool) → is_equal_word cut.0 ≡ k
-            → cond k (equal_at place 1 (drop 1 cut.0) >>= λ clause. build_word place (length cut.0 + 1) cut.1 >>= λ build. Ok (Some clause, Some build)) (words_read place text) ≡ Ok r
+            → cond k (equal_at place 1 (drop 1 cut.0) >>= λ clause. build_word place (length cut.0 + 1) cut.1 >>= λ build. Ok (Some clause, Some build)) (two_words_read place text) ≡ Ok r
             → Follows true text r.0 r.1
         by_word true f q =
             let found = bind_ok (equal_at place 1 (drop 1 cut.0)) _ r q in
@@ -211,10 +212,10 @@ spaced_only place text r l h = by (cut_first space text) refl h (cut_is l text)
             let whole : (equals ∷ v) ++ space ∷ next.0 ≡ text = sym (at.0 ∙ ap (λ w. w ++ space ∷ cut.1) word.0 ∙ ap (λ b. (equals ∷ v) ++ space ∷ b) free.0) in
             subst (λ (w : VersionAndBuild). Follows true text w.0 w.1) (ok_same (Some found.0, Some next.0) r next.2)
             (subst (λ t. Follows true t (Some found.0) (Some next.0)) whole
-            (spaced_equal v found.0 next.0 (word.1, spaces) (equal_only place 1 v found.0 found.1) free.1))
+            (spaced_equal v found.0 next.0 (word.1, spaces) (equal_only l place 1 v found.0 found.1) free.1))
         by_word false f q =
             let read : words_cut place text (Some cut) ≡ Ok r = sym (ap (words_cut place text) e) ∙ q in
-            spaced cut.0 text r.0 r.1 (words_only place text (Some cut) r at read) (λ _. other_word cut.0 f)
+            spaced cut.0 text r.0 r.1 (words_only l place text (Some cut) r at read) (λ _. other_word cut.0 f)
 
 -- ---- directly behind the name
 
@@ -239,14 +240,14 @@ equals_is l text = by (cut_first equals text) refl
     by None e = (l.no_first equals text).0 e
     by (Some cut) e = (l.first equals text cut.0 cut.1).0 e
 
-one_only : (place : ℕ → ℕ) (tail : List ℕ) (cut : Option (List ℕ × List ℕ)) (r : VersionAndBuild) → joined_cut place (equals ∷ tail) 1 cut ≡ Ok r → CutAtEquals tail cut
+one_only : (l : Laws) (place : ℕ → ℕ) (tail : List ℕ) (cut : Option (List ℕ × List ℕ)) (r : VersionAndBuild) → joined_cut place (equals ∷ tail) 1 cut ≡ Ok r → CutAtEquals tail cut
     → NoneOf is_sign (before_equals cut tail) → IsFreeOf space tail → Follows false (equals ∷ tail) r.0 r.1
 unfolding CutAtEquals
-one_only place tail None r h at free spaces =
+one_only l place tail None r h at free spaces =
     let found = bind_ok (clause_at place 0 0 (equals ∷ tail)) _ r h in
     subst (λ (w : VersionAndBuild). Follows false (equals ∷ tail) w.0 w.1) (ok_same (Some found.0, None) r found.2)
-    (starts tail found.0 (plain_all tail at free, spaces) (clause_only place 0 0 (equals ∷ tail) found.0 found.1))
-one_only place tail (Some cut) r h at free spaces =
+    (starts tail found.0 (plain_all tail at free, spaces) (clause_only l place 0 0 (equals ∷ tail) found.0 found.1))
+one_only l place tail (Some cut) r h at free spaces =
     let found = bind_ok (equal_at place 1 cut.0) _ r h in
     let next = bind_ok (build_at (place (1 + length cut.0 + 1)) cut.1) _ r found.2 in
     let build = build_only (place (1 + length cut.0 + 1)) cut.1 next.0 next.1 in
@@ -254,16 +255,16 @@ one_only place tail (Some cut) r h at free spaces =
     let same : cut.0 ++ equals ∷ next.0 ≡ tail = sym (at.0 ∙ ap (λ b. cut.0 ++ equals ∷ b) build.0) in
     subst (λ (w : VersionAndBuild). Follows false (equals ∷ tail) w.0 w.1) (ok_same (Some found.0, Some next.0) r next.2)
     (subst (λ t. Follows false (equals ∷ t) (Some found.0) (Some next.0)) same
-    (starts_build cut.0 found.0 next.0 plain (equal_only place 1 cut.0 found.0 found.1) build.1))
+    (starts_build cut.0 found.0 next.0 plain (equal_only l place 1 cut.0 found.0 found.1) build.1))
 
-two_only : (place : ℕ → ℕ) (tail : List ℕ) (cut : Option (List ℕ × List ℕ)) (r : VersionAndBuild) → joined_cut place (equals ∷ equals ∷ tail) 2 cut ≡ Ok r → CutAtEquals tail cut
+two_only : (l : Laws) (place : ℕ → ℕ) (tail : List ℕ) (cut : Option (List ℕ × List ℕ)) (r : VersionAndBuild) → joined_cut place (equals ∷ equals ∷ tail) 2 cut ≡ Ok r → CutAtEquals tail cut
     → NoneOf is_sign (before_equals cut tail) → IsFreeOf space tail → Follows false (equals ∷ equals ∷ tail) r.0 r.1
 unfolding CutAtEquals
-two_only place tail None r h at free spaces =
+two_only l place tail None r h at free spaces =
     let found = bind_ok (clause_at place 0 0 (equals ∷ equals ∷ tail)) _ r h in
     subst (λ (w : VersionAndBuild). Follows false (equals ∷ equals ∷ tail) w.0 w.1) (ok_same (Some found.0, None) r found.2)
-    (equal tail found.0 (plain_all tail at free, spaces) (clause_only place 0 0 (equals ∷ equals ∷ tail) found.0 found.1))
-two_only place tail (Some cut) r h at free spaces =
+    (equal tail found.0 (plain_all tail at free, spaces) (clause_only l place 0 0 (equals ∷ equals ∷ tail) found.0 found.1))
+two_only l place tail (Some cut) r h at free spaces =
     let found = bind_ok (clause_at place 0 0 (codes "==" ++ cut.0)) _ r h in
     let next = bind_ok (build_at (place (2 + length cut.0 + 1)) cut.1) _ r found.2 in
     let build = build_only (place (2 + length cut.0 + 1)) cut.1 next.0 next.1 in
@@ -271,7 +272,7 @@ two_only place tail (Some cut) r h at free spaces =
     let same : cut.0 ++ equals ∷ next.0 ≡ tail = sym (at.0 ∙ ap (λ b. cut.0 ++ equals ∷ b) build.0) in
     subst (λ (w : VersionAndBuild). Follows false (equals ∷ equals ∷ tail) w.0 w.1) (ok_same (Some found.0, Some next.0) r next.2)
     (subst (λ t. Follows false (equals ∷ equals ∷ t) (Some found.0) (Some next.0)) same
-    (equal_build cut.0 found.0 next.0 plain (clause_only place 0 0 (codes "==" ++ cut.0) found.0 found.1) build.1))
+    (equal_build cut.0 found.0 next.0 plain (clause_only l place 0 0 (codes "==" ++ cut.0) found.0 found.1) build.1))
 
 -- a text that begins with `=`, once or twice
 data Lead : List ℕ → Type 0 where
@@ -291,12 +292,12 @@ joined_only : (l : Laws) (place : ℕ → ℕ) (word : List ℕ) (r : VersionAnd
 unfolding joined_read
 joined_only l place word r (once tail other) h free spaces =
     let lead : lead_of (equals ∷ tail) ≡ 1 = ap (λ k. cond k 2 1) other in
-    one_only place tail (cut_first equals tail) r
+    one_only l place tail (cut_first equals tail) r
     (sym (ap (λ n. joined_cut place (equals ∷ tail) n (cut_first equals (drop n (equals ∷ tail)))) lead) ∙ h)
     (equals_is l tail)
     (subst (λ n. NoneOf is_sign (before_equals (cut_first equals (drop n (equals ∷ tail))) (drop n (equals ∷ tail)))) lead free)
     spaces.1
-joined_only l place word r (twice tail) h free spaces = two_only place tail (cut_first equals tail) r h (equals_is l tail) free spaces.1.1
+joined_only l place word r (twice tail) h free spaces = two_only l place tail (cut_first equals tail) r h (equals_is l tail) free spaces.1.1
 
 -- a sign stands in the text before any `=`
 record SignBefore (text : List ℕ) : Type 0 where
@@ -352,57 +353,57 @@ word_begins b bs (Some cut) other at = by cut.0 (at.0)
     by (c ∷ cs) e = let same : b ≡ c = cc in (cs, ap (λ d. d ∷ cs) (sym same))
 
 equals_only : (l : Laws) (place : ℕ → ℕ) (bs : List ℕ) (r : VersionAndBuild) → equals_read place (equals ∷ bs) ≡ Ok r → Follows false (equals ∷ bs) r.0 r.1
-unfolding equals_read words_read CutAtSpace word_of
+unfolding equals_read two_words_read CutAtSpace word_of
 equals_only l place bs r h = by (cut_first space text) refl h (cut_is l text)
   where
     text : List ℕ
     text = equals ∷ bs
 
     words_follow : (cut : Option (List ℕ × List ℕ)) → cut_first space text ≡ cut → CutAtSpace text cut → Lead (word_of text cut) → list_any is_sign (version_of (word_of text cut)) ≡ true
-        → words_read place text ≡ Ok r → Follows false text r.0 r.1
+        → two_words_read place text ≡ Ok r → Follows false text r.0 r.1
     words_follow cut e at lead sign q =
-        signs (word_of text cut) text r.0 r.1 (words_only place text cut r at (sym (ap (words_cut place text) e) ∙ q)) (begins_clause l (word_of text cut) lead sign)
+        signs (word_of text cut) text r.0 r.1 (words_only l place text cut r at (sym (ap (words_cut place text) e) ∙ q)) (begins_clause l (word_of text cut) lead sign)
 
     by : (cut : Option (List ℕ × List ℕ)) → cut_first space text ≡ cut → equals_cut place text cut ≡ Ok r → CutAtSpace text cut → Follows false text r.0 r.1
     by None e g at = by_sign (list_any is_sign (version_of text)) refl g
       where
-        by_sign : (k : Bool) → list_any is_sign (version_of text) ≡ k → cond k (words_read place text) (joined_read place text) ≡ Ok r → Follows false text r.0 r.1
+        by_sign : (k : Bool) → list_any is_sign (version_of text) ≡ k → cond k (two_words_read place text) (joined_read place text) ≡ Ok r → Follows false text r.0 r.1
         by_sign true f q = words_follow None e at (lead_is text refl) f q
         by_sign false f q = joined_only l place text r (lead_is text refl) q (any_none is_sign (version_of text) f) at
     by (Some cut) e g at = by_sign (list_any is_sign (version_of cut.0)) refl g
       where
-        by_sign : (k : Bool) → list_any is_sign (version_of cut.0) ≡ k → cond k (words_read place text) (joined_read place cut.0 >>= λ wanted. Err (place (length cut.0 + 1), Words)) ≡ Ok r → Follows false text r.0 r.1
+        by_sign : (k : Bool) → list_any is_sign (version_of cut.0) ≡ k → cond k (two_words_read place text) (joined_read place cut.0 >>= λ wanted. Err (place (length cut.0 + 1), Words)) ≡ Ok r → Follows false text r.0 r.1
         by_sign true f q =
             let first = word_begins equals bs (Some cut) refl at in
             words_follow (Some cut) e at (lead_is cut.0 (ap (begins_with equals) first.1)) f q
         by_sign false f q = let found = bind_ok (joined_read place cut.0) _ r q in absurd (cc)
 
 pub wanted_only : (l : Laws) (place : ℕ → ℕ) (apart : Bool) (text : List ℕ) (r : VersionAndBuild) → wanted_read place apart text ≡ Ok r → Follows apart text r.0 r.1
-unfolding wanted_read words_read
+unfolding wanted_read two_words_read
 wanted_only l place apart [] r h = subst (λ (w : VersionAndBuild). Follows apart [] w.0 w.1) (ok_same (None, None) r h) (end apart)
 wanted_only l place apart (b ∷ bs) r h = by apart (failed (is_joint b) _ _ r h).1
   where
     text : List ℕ
     text = b ∷ bs
 
-    by_comparison : (b == equals) ≡ false → cond (is_comparison b) (words_read place text) (Err (place 0, Words)) ≡ Ok r → Follows false text r.0 r.1
+    by_comparison : (b == equals) ≡ false → cond (is_comparison b) (two_words_read place text) (Err (place 0, Words)) ≡ Ok r → Follows false text r.0 r.1
     by_comparison other q =
-        let p = passed (is_comparison b) (words_read place text) (place 0, Words) r q in
+        let p = passed (is_comparison b) (two_words_read place text) (place 0, Words) r q in
         let bare : (b == space) ≡ false = comparison_bare b p.0 in
         let first = word_begins b bs (cut_first space text) bare (cut_is l text) in
-        signs (word_of text (cut_first space text)) text r.0 r.1 (words_only place text (cut_first space text) r (cut_is l text) p.1)
+        signs (word_of text (cut_first space text)) text r.0 r.1 (words_only l place text (cut_first space text) r (cut_is l text) p.1)
         (subst BeginsClause (sym first.1) (compares b first.0 p.0))
       where
         comparison_bare : (b : ℕ) → is_comparison b ≡ true → (b == space) ≡ false
         comparison_bare b h = grind (arith, nat_tests)
 
-    by_equals : (k : Bool) → (b == equals) ≡ k → cond k (equals_read place text) (cond (is_comparison b) (words_read place text) (Err (place 0, Words))) ≡ Ok r → Follows false text r.0 r.1
+    by_equals : (k : Bool) → (b == equals) ≡ k → cond k (equals_read place text) (cond (is_comparison b) (two_words_read place text) (Err (place 0, Words))) ≡ Ok r → Follows false text r.0 r.1
     by_equals true e q =
         let same : b ≡ equals = eqb-true b equals e in
         subst (λ c. Follows false (c ∷ bs) r.0 r.1) (sym same) (equals_only l place bs r (sym (ap (λ c. equals_read place (c ∷ bs)) same) ∙ q))
     by_equals false e q = by_comparison e q
 
-    by : (k : Bool) → cond k (spaced_read place text) (cond (b == equals) (equals_read place text) (cond (is_comparison b) (words_read place text) (Err (place 0, Words)))) ≡ Ok r → Follows k text r.0 r.1
+    by : (k : Bool) → cond k (spaced_read place text) (cond (b == equals) (equals_read place text) (cond (is_comparison b) (two_words_read place text) (Err (place 0, Words)))) ≡ Ok r → Follows k text r.0 r.1
     by true q = spaced_only place text r l q
     by false q = by_equals (b == equals) refl q
 
@@ -440,9 +441,9 @@ some_run (b ∷ bs) h e = by (position_or_len ends_name (b ∷ bs)) h e
     by zero g q = true≢false g
     by (suc n) g q = absurd (cc)
 
-named_only : (l : Laws) (given : Given) (at : ℕ) (text : List ℕ) (found : Front) → named_read given at text ≡ Ok found
+named_only : (l : Laws) (given : Given) (at : ℕ) (text : List ℕ) (found : Front) → name_read given at text ≡ Ok found
     → (name : List ℕ) × (r : VersionAndBuild) × ((name, with_wanted given r) ≡ found) × IsNamed text name r.0 r.1
-unfolding named_read
+unfolding name_read
 named_only l given at text found h =
     let n : ℕ = position_or_len ends_name text in
     let fault : ℕ × SpecWhy = (at, Name) in
@@ -516,7 +517,7 @@ unfolding front_read channel_read CutAtSlash
 front_only l text found h = by (cut_colons text) refl h
   where
     in_channels : (before rest : List ℕ) (given : Given) (cut : Option (List ℕ × List ℕ)) → CutAtSlash before cut → channel_cut before cut ≡ Ok given → text ≡ before ++ (codes "::" ++ rest)
-        → named_read given (length before + 2) rest ≡ Ok found → IsFront text found
+        → name_read given (length before + 2) rest ≡ Ok found → IsFront text found
     in_channels before rest given None at g e q =
         let read = bind_ok (channel_at 0 before) _ given g in
         let is = channel_only 0 before read.0 read.1 in
@@ -636,21 +637,21 @@ is_none_of : {A : Type 0} (o : Option A) → is_some o ≡ false → o ≡ None
 is_none_of None h = refl
 is_none_of (Some x) h = absurd (true≢false h)
 
-put_only : (given behind : Given) (key : ItemKey) (at : ℕ) (v : ℕ × List ℕ) (written : List ℕ) → IsValue written v.1 → has_key given key ≡ false → put given key at v ≡ Ok behind
+put_only : (l : Laws) (given behind : Given) (key : ItemKey) (at : ℕ) (v : ℕ × List ℕ) (written : List ℕ) → IsValue written v.1 → has_key given key ≡ false → put given key at v ≡ Ok behind
     → IsItem given (key_text key ++ equals ∷ written) behind
 unfolding put key_text clause_value
-put_only given behind keys.Version at v written value new h =
+put_only l given behind keys.Version at v written value new h =
     let found = bind_ok (clause_value v.0 v.1) _ behind h in
     let after : Given = record given { version = Some found.0 } in
     subst (IsItem given (codes "version=" ++ written)) (ok_same after behind found.2)
-    (item_version given written v.1 found.0 (is_none_of given.version new) value (clause_only (λ i. v.0 + place_of v.1 i) 0 0 (kept v.1) found.0 found.1))
-put_only given behind keys.Build at v written value new h =
+    (item_version given written v.1 found.0 (is_none_of given.version new) value (clause_only l (λ i. v.0 + place_of v.1 i) 0 0 (kept v.1) found.0 found.1))
+put_only l given behind keys.Build at v written value new h =
     let found = bind_ok (build_at v.0 v.1) _ behind h in
     let free = build_only v.0 v.1 found.0 found.1 in
     let after : Given = record given { build = Some found.0 } in
     subst (IsItem given (codes "build=" ++ written)) (ok_same after behind found.2)
     (item_build given written found.0 (is_none_of given.build new) (subst (IsValue written) free.0 value) free.1)
-put_only given behind keys.BuildNumber at v written value new h =
+put_only l given behind keys.BuildNumber at v written value new h =
     let found = bind_ok (number_or at (digits_below 18446744073709551616 v.1)) _ behind h in
     let after : Given = record given { number = Some found.0 } in
     subst (IsItem given (codes "build_number=" ++ written)) (ok_same after behind found.2)
@@ -659,13 +660,13 @@ put_only given behind keys.BuildNumber at v written value new h =
     number_some : (o : Option ℕ) (n : ℕ) → number_or at o ≡ Ok n → o ≡ Some n
     number_some None n e = absurd (cc)
     number_some (Some m) n e = ap Some (ok_same m n e)
-put_only given behind keys.Channel at v written value new h =
+put_only l given behind keys.Channel at v written value new h =
     let found = bind_ok (channel_at v.0 v.1) _ behind h in
     let free = channel_only v.0 v.1 found.0 found.1 in
     let after : Given = record given { channel = Some found.0 } in
     subst (IsItem given (codes "channel=" ++ written)) (ok_same after behind found.2)
     (item_channel given written found.0 (is_none_of given.channel new) (subst (IsValue written) free.0 value) free.1)
-put_only given behind keys.Subdir at v written value new h =
+put_only l given behind keys.Subdir at v written value new h =
     let found = bind_ok (channel_at v.0 v.1) _ behind h in
     let free = channel_only v.0 v.1 found.0 found.1 in
     let after : Given = record given { subdir = Some found.0 } in
@@ -684,7 +685,7 @@ item_only l given behind at text h = by (cut_first equals text) refl h
         let fault : ℕ × SpecWhy = (at, Key) in
         let t = failed (has_key given k) (put given k at v) fault behind g in
         subst (λ q. IsItem given (q ++ equals ∷ written) behind) (sym (key_only key k e))
-        (put_only given behind k at v written (value_only (at + length key + 1) written v f) t.0 t.1)
+        (put_only l given behind k at v written (value_only (at + length key + 1) written v f) t.0 t.1)
 
     by : (cut : Option (List ℕ × List ℕ)) → cut_first equals text ≡ cut → item_cut given at cut ≡ Ok behind → IsItem given text behind
     by None e g = absurd (cc)
@@ -761,12 +762,17 @@ spec_only l text parts h = by (brackets_of text) refl h
     by : (cut : Option (List ℕ × List ℕ)) → brackets_of text ≡ cut → spec_cut text cut ≡ Ok parts → IsSpecText text parts
     by None e g =
         let found = bind_ok (front_read text) _ parts g in
-        subst (IsSpecText text) (ok_same (parts_of found.0 nothing) parts found.2)
-        (plain text found.0 (brackets_none l text e) (front_only l text found.0 found.1))
+        let front = front_only l text found.0 found.1 in
+        subst (IsSpecText text) (ok_same (spec_parts found.0 nothing) parts found.2)
+        (plain text found.0 (spec_parts found.0 nothing) (brackets_none l text e) front
+        (parts_are l found.0 nothing (front_right l text found.0 front) tt))
     by (Some cut) e g =
         let found = bind_ok (front_read cut.0) _ parts g in
         let next = bind_ok (items_read nothing (length cut.0 + 1) (items_of None cut.1)) _ parts found.2 in
         let at = brackets_some l text cut e in
-        subst (IsSpecText text) (ok_same (parts_of found.0 next.0) parts next.2)
-        (subst (λ t. IsSpecText t (parts_of found.0 next.0)) (sym at.0)
-        (bracketed cut.0 cut.1 found.0 next.0 at.1 (front_only l cut.0 found.0 found.1) (inside_only l nothing next.0 (length cut.0 + 1) cut.1 next.1)))
+        let front = front_only l cut.0 found.0 found.1 in
+        let inside = inside_only l nothing next.0 (length cut.0 + 1) cut.1 next.1 in
+        subst (IsSpecText text) (ok_same (spec_parts found.0 next.0) parts next.2)
+        (subst (λ t. IsSpecText t (spec_parts found.0 next.0)) (sym at.0)
+        (bracketed cut.0 cut.1 found.0 next.0 (spec_parts found.0 next.0) at.1 front inside
+        (parts_are l found.0 next.0 (front_right l cut.0 found.0 front) (items_right l nothing next.0 cut.1 inside tt))))

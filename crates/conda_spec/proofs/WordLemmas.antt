@@ -16,8 +16,8 @@ use Rattle.conda_spec.specs.Grammar.{Follows, IsNamed, IsClauseOf, ends_here}
 use Rattle.conda_spec.specs.Grammar.Follows.{end, spaced}
 use Rattle.conda_spec.specs.Grammar.IsNamed.{named}
 use Rattle.conda_spec.specs.Grammar.IsWords.{alone, with_build}
-use Rattle.conda_spec.specs.Parts.{IsFreeWord, NoneOf, bars_build, is_name_char, is_one_of}
-use Rattle.conda_spec.specs.Reading.{ends_name, is_sign_or_equals}
+use Rattle.conda_clause.specs.Spaces.{is_one_of}
+use Rattle.conda_spec.specs.Parts.{bars_build, ends_name, is_name_char, is_sign_or_equals, IsFreeWord, NoneOf}
 use Rattle.conda_spec.specs.Text.{word_text}
 use Rattle.conda_spec.proofs.LowerLaws.{Laws}
 use Rattle.conda_spec.proofs.PieceLemmas.{AllOf, fewer, none_in_both, none_of_all}
@@ -64,7 +64,7 @@ clause_word l (b ∷ bs) good lowered =
       stays = rw (ends at comma back.0, ends at bar back.1, ends at less back.2, ends at greater back.3, ends at equals back.4) refl;
       begins = by (b == comma) refl (b == bar) refl;
       chars = all_none is_clause_char bars_clause clause_char text (l.chars text good);
-      writes = (sym lowered, good);
+      writes = (sym lowered, l.clause text good);
     }
   where
     ends : slice_get (b ∷ bs) (length (b ∷ bs) - 1) ≡ Some (get_or (b ∷ bs) (length (b ∷ bs) - 1) 0) → (c : ℕ) → ends_with c (b ∷ bs) ≡ false → (get_or (b ∷ bs) (length (b ∷ bs) - 1) 0 == c) ≡ false

@@ -20,7 +20,7 @@ pub record IsVersionAndBuild (wanted : Option (List ℕ) × Option (List ℕ)) :
   pub version : IfSome wanted.0 IsGoodClause
   pub build : IfSome wanted.1 (IsFreeWord bars_build)
 
-pub record IsGiven (given : Given) : Type 0 where
+pub record IsGoodGiven (given : Given) : Type 0 where
   pub channel : IfSome given.channel (IsFreeWord bars_channel)
   pub subdir : IfSome given.subdir (IsFreeWord bars_channel)
   pub version : IfSome given.version IsGoodClause
@@ -28,6 +28,6 @@ pub record IsGiven (given : Given) : Type 0 where
   pub number : IfSome given.number (λ n. n < 18446744073709551616)
 
 -- a name, and what is given before the brackets
-pub record IsFront (front : List ℕ × Given) : Type 0 where
+pub record IsGoodFront (front : List ℕ × Given) : Type 0 where
   pub name : (front.0 ≢ []) × AllByRecursion (λ b. is_name_char b ≡ true) front.0
-  pub given : IsGiven front.1
+  pub given : IsGoodGiven front.1

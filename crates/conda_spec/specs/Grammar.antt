@@ -5,15 +5,25 @@ use Rattle.std.specs.Char.{to_ascii_lowercase}
 use Rattle.conda_base.specs.Numbers.{digits_below}
 use Rattle.conda_base.specs.Signs.{close_bracket, comma, equals, open_bracket, slash, space}
 use Rattle.conda_base.specs.Texts.{begins_with, is_byte}
-use Rattle.conda_clause.specs.Clause.{clause_fault}
+use Rattle.conda_clause.specs.Beside.{IsBesideBuild}
 use Rattle.conda_clause.specs.Kept.{kept}
+use Rattle.conda_clause.specs.Tree.{IsClause}
 use Rattle.conda_spec.specs.declared.given.Given.{Given}
-use Rattle.conda_spec.specs.Parts.{IsFreeWord, NoneOf, Parts, bars_build, bars_channel}
-use Rattle.conda_spec.specs.Reading.{Front, bars_bare, ends_name, equal_to, is_comparison, is_quote, is_sign, is_sign_or_equals, nothing, parts_of}
+use Rattle.conda_spec.specs.Parts.{bars_bare, bars_build, bars_channel, ends_name, Front, is_comparison, is_quote, is_sign, is_sign_or_equals, IsFreeWord, NoneOf, nothing, Parts}
+use Rattle.conda_spec.specs.Reading.{equal_to, spec_parts}
 
 -- The text writes this version clause: it is the clause but for the case of its letters.
 abbrev pub IsClauseOf : List ℕ → List ℕ → Type 0
-IsClauseOf text clause = (clause ≡ map to_ascii_lowercase text) × (clause_fault clause ≡ None)
+IsClauseOf text clause = (clause ≡ map to_ascii_lowercase text) × IsClause clause
+
+-- "Equal to V", where V stands between two `=`, is written so: as V itself where it ends with a star, else as `==V`.
+pub data IsEqualTo : List ℕ → List ℕ → Type 0 where
+  starred : (front : List ℕ) → IsEqualTo (front ++ codes "*") (front ++ codes "*")
+  bare : (v : List ℕ) → ((front : List ℕ) → v ≢ front ++ codes "*") → IsEqualTo v (codes "==" ++ v)
+
+-- the version clause that says it
+abbrev pub IsEqualClause : List ℕ → List ℕ → Type 0
+IsEqualClause v clause = (text : List ℕ) × IsEqualTo v text × IsClauseOf text clause
 
 -- ---- what follows a name
 
@@ -43,13 +53,13 @@ pub data Follows : Bool → List ℕ → Option (List ℕ) → Option (List ℕ)
   -- `==V`
   equal : (v clause : List ℕ) → IsPlainVersion v → IsClauseOf (equals ∷ equals ∷ v) clause → Follows false (equals ∷ equals ∷ v) (Some clause) None
   -- `=V=B`
-  starts_build : (v clause build : List ℕ) → IsPlainVersion v → IsClauseOf (equal_to v) clause → IsFreeWord bars_build build
+  starts_build : (v clause build : List ℕ) → IsPlainVersion v → IsEqualClause v clause → IsFreeWord bars_build build
       → Follows false (equals ∷ (v ++ equals ∷ build)) (Some clause) (Some build)
   -- `==V=B`
   equal_build : (v clause build : List ℕ) → IsPlainVersion v → IsClauseOf (equals ∷ equals ∷ v) clause → IsFreeWord bars_build build
       → Follows false (equals ∷ equals ∷ (v ++ equals ∷ build)) (Some clause) (Some build)
   -- a space and `=V B`
-  spaced_equal : (v clause build : List ℕ) → IsPlainVersion v → IsClauseOf (equal_to v) clause → IsFreeWord bars_build build
+  spaced_equal : (v clause build : List ℕ) → IsPlainVersion v → IsEqualClause v clause → IsFreeWord bars_build build
       → Follows true ((equals ∷ v) ++ space ∷ build) (Some clause) (Some build)
   -- a space and `V`, or a space and `V B` where V is none of the form above
   spaced : (word text : List ℕ) (version build : Option (List ℕ)) → IsWords word text version build
@@ -106,10 +116,33 @@ pub data IsItems : Given → List ℕ → Given → Type 0 where
 
 -- ---- the whole
 
--- A text without spaces at its ends is a specification of these parts. The brackets begin at its last `[`, where it ends with `]`;
--- what they hold wins over what stands before them.
+-- what the brackets give wins over what stands before them
+pub data Wins {A : Type 0} : Option A → Option A → Option A → Type 0 where
+  inside : (x : A) (before : Option A) → Wins (Some x) before (Some x)
+  before : (before : Option A) → Wins None before before
+
+-- The version clause where this build is given, or none: where a build is given and no version, it is `*`.
+pub data IsBeside : Option (List ℕ) → Option (List ℕ) → Option (List ℕ) → Type 0 where
+  no_build : (version : Option (List ℕ)) → IsBeside None version version
+  any : (build : List ℕ) → IsBeside (Some build) None (Some (codes "*"))
+  beside : (build clause written : List ℕ) → IsBesideBuild clause written → IsBeside (Some build) (Some clause) (Some written)
+
+-- the parts that a name, what stands before the brackets, and what stands in them give
+pub record AreParts (front : Front) (given : Given) (parts : Parts) : Type 0 where
+  pub channel : Wins given.channel front.1.channel parts.channel
+  pub subdir : Wins given.subdir front.1.subdir parts.subdir
+  pub name : parts.name ≡ front.0
+  pub clause : Option (List ℕ)
+  pub version : Wins given.version front.1.version clause
+  pub build : Wins given.build front.1.build parts.build
+  pub beside : IsBeside parts.build clause parts.version
+  pub number : parts.number ≡ given.number
+
+-- A text without spaces at its ends is a specification of these parts. The brackets begin at its last `[`, where it ends with `]`.
 pub data IsSpecText : List ℕ → Parts → Type 0 where
-  plain : (text : List ℕ) (front : Front) → ((before inside : List ℕ) → text ≢ (before ++ open_bracket ∷ inside) ++ close_bracket ∷ [])
-      → IsFront text front → IsSpecText text (parts_of front nothing)
-  bracketed : (before inside : List ℕ) (front : Front) (given : Given) → NoneOf (is_byte open_bracket) inside
-      → IsFront before front → IsItems nothing inside given → IsSpecText ((before ++ open_bracket ∷ inside) ++ close_bracket ∷ []) (parts_of front given)
+  plain : (text : List ℕ) (front : Front) (parts : Parts)
+      → ((before inside : List ℕ) → text ≢ (before ++ open_bracket ∷ inside) ++ close_bracket ∷ [])
+      → IsFront text front → AreParts front nothing parts → IsSpecText text parts
+  bracketed : (before inside : List ℕ) (front : Front) (given : Given) (parts : Parts) → NoneOf (is_byte open_bracket) inside
+      → IsFront before front → IsItems nothing inside given → AreParts front given parts
+      → IsSpecText ((before ++ open_bracket ∷ inside) ++ close_bracket ∷ []) parts

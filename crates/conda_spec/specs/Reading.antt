@@ -18,7 +18,7 @@ use Rattle.conda_base.specs.Signs.{close_bracket, comma, double_quote, equals, o
 use Rattle.conda_base.specs.Texts.{begins_with, cut_first, cut_last, ends_with, is_byte}
 use Rattle.conda_spec.specs.Cuts.{cut_colons, without_last}
 use Rattle.conda_base.specs.Reads.{Read, ◌>>=◌, unless}
-use Rattle.conda_spec.specs.Parts.{Parts, bars_build, bars_channel, is_name_char, is_one_of}
+use Rattle.conda_spec.specs.Parts.{Front, Parts, bars_bare, bars_build, bars_channel, ends_name, is_comparison, is_quote, is_sign, is_sign_or_equals, nothing}
 
 -- a value, or where a fault is and what is wrong there
 abbrev pub SpecRead : Type 0 → Type 0
@@ -73,15 +73,8 @@ words_cut place text (Some cut) = do
   build ← build_word place (length cut.0 + 1) cut.1
   Ok (Some clause, Some build)
 
-unfoldable pub words_read : (ℕ → ℕ) → List ℕ → SpecRead VersionAndBuild
-words_read place text = words_cut place text (cut_first space text)
-
--- one of the characters that a version between or behind signs `=` doesn't hold
-abbrev pub is_sign : ℕ → Bool
-is_sign b = is_one_of (codes ",|<>!~(") b
-
-abbrev pub is_sign_or_equals : ℕ → Bool
-is_sign_or_equals b = b == equals || is_sign b
+unfoldable pub two_words_read : (ℕ → ℕ) → List ℕ → SpecRead VersionAndBuild
+two_words_read place text = words_cut place text (cut_first space text)
 
 -- `=v`, where v holds no `=` and no other sign
 abbrev pub is_equal_word : List ℕ → Bool
@@ -90,13 +83,13 @@ is_equal_word (b ∷ bs) = b == equals && not (list_any is_sign_or_equals bs)
 
 -- What a space parts from the name: words, of which the first two are `=v=B` where they are `=v` and B.
 abbrev pub spaced_cut : (ℕ → ℕ) → List ℕ → Option (List ℕ × List ℕ) → SpecRead VersionAndBuild
-spaced_cut place text None = words_read place text
+spaced_cut place text None = two_words_read place text
 spaced_cut place text (Some cut) =
     if is_equal_word cut.0 then
     (equal_at place 1 (drop 1 cut.0) >>= λ clause.
     build_word place (length cut.0 + 1) cut.1 >>= λ build.
     Ok (Some clause, Some build))
-    else words_read place text
+    else two_words_read place text
 
 unfoldable pub spaced_read : (ℕ → ℕ) → List ℕ → SpecRead VersionAndBuild
 spaced_read place text = spaced_cut place text (cut_first space text)
@@ -126,17 +119,13 @@ joined_read place word = joined_cut place word (lead_of word) (cut_first equals 
 
 -- What begins with `=` directly behind the name: one such word, or words of a version clause that goes on behind its first test.
 abbrev pub equals_cut : (ℕ → ℕ) → List ℕ → Option (List ℕ × List ℕ) → SpecRead VersionAndBuild
-equals_cut place text None = if list_any is_sign (version_of text) then words_read place text else joined_read place text
+equals_cut place text None = if list_any is_sign (version_of text) then two_words_read place text else joined_read place text
 equals_cut place text (Some cut) =
-    if list_any is_sign (version_of cut.0) then words_read place text
+    if list_any is_sign (version_of cut.0) then two_words_read place text
     else (joined_read place cut.0 >>= λ wanted. Err (place (length cut.0 + 1), Words))
 
 unfoldable pub equals_read : (ℕ → ℕ) → List ℕ → SpecRead VersionAndBuild
 equals_read place text = equals_cut place text (cut_first space text)
-
--- a sign with which a version clause begins directly behind the name
-abbrev pub is_comparison : ℕ → Bool
-is_comparison b = is_one_of (codes "<>!~") b
 
 -- The characters that stay, and whether a space parts them from the name. A space before `,` or `|` doesn't.
 unfoldable pub wanted_read : (ℕ → ℕ) → Bool → List ℕ → SpecRead VersionAndBuild
@@ -145,7 +134,7 @@ wanted_read place spaced (b ∷ bs) =
     if is_joint b then Err (place 0, Words)
     else if spaced then spaced_read place (b ∷ bs)
     else if b == equals then equals_read place (b ∷ bs)
-    else if is_comparison b then words_read place (b ∷ bs)
+    else if is_comparison b then two_words_read place (b ∷ bs)
     else Err (place 0, Words)
 
 -- what follows a name, from a place on
@@ -154,24 +143,12 @@ followed_read at text = wanted_read (λ i. at + place_of text i) (begins_with sp
 
 -- What stands before the brackets.
 
--- no character of a name in either case
-abbrev pub ends_name : ℕ → Bool
-ends_name b = not (is_name_char (to_ascii_lowercase b))
-
--- nothing is given yet
-abbrev pub nothing : Given
-nothing = record { channel = None; subdir = None; version = None; build = None; number = None }
-
--- what is given before the brackets: a name, behind a channel and a subdir, and what follows it
-abbrev pub Front : Type 0
-Front = List ℕ × Given
-
 abbrev pub with_wanted : Given → VersionAndBuild → Given
 with_wanted given wanted = record given { version = wanted.0; build = wanted.1 }
 
 -- a name and what follows it, from a place on
-unfoldable pub named_read : Given → ℕ → List ℕ → SpecRead Front
-named_read given at text =
+unfoldable pub name_read : Given → ℕ → List ℕ → SpecRead Front
+name_read given at text =
     if position_or_len ends_name text == 0 then Err (at, Name)
     else
     (followed_read (at + position_or_len ends_name text) (drop (position_or_len ends_name text) text) >>= λ wanted.
@@ -189,17 +166,13 @@ unfoldable pub channel_read : List ℕ → SpecRead Given
 channel_read text = channel_cut text (cut_first slash text)
 
 abbrev pub front_cut : List ℕ → Option (List ℕ × List ℕ) → SpecRead Front
-front_cut text None = named_read nothing 0 text
-front_cut text (Some cut) = channel_read cut.0 >>= λ given. named_read given (length cut.0 + 2) cut.1
+front_cut text None = name_read nothing 0 text
+front_cut text (Some cut) = channel_read cut.0 >>= λ given. name_read given (length cut.0 + 2) cut.1
 
 unfoldable pub front_read : List ℕ → SpecRead Front
 front_read text = front_cut text (cut_colons text)
 
 -- The items in the brackets.
-
--- a quote
-abbrev pub is_quote : ℕ → Bool
-is_quote b = b == quote || b == double_quote
 
 -- the quote in which the next character stands, if it does
 abbrev pub quote_behind : Option ℕ → ℕ → Option ℕ
@@ -229,10 +202,6 @@ key_of text =
     else if pointwise nat_eq text (codes "channel") then Some keys.Channel
     else if pointwise nat_eq text (codes "subdir") then Some keys.Subdir
     else None
-
--- no value without quotes holds it
-abbrev pub bars_bare : ℕ → Bool
-bars_bare b = is_quote b || b == comma || b == close_bracket
 
 -- a text that holds no such mark
 abbrev pub without_quote : ℕ → List ℕ → Option (List ℕ)
@@ -305,8 +274,8 @@ version_beside None version = version
 version_beside (Some build) version = Some (beside_build (unwrap_or version (codes "*")))
 
 -- what is given in the brackets wins
-abbrev pub parts_of : Front → Given → Parts
-parts_of front given =
+abbrev pub spec_parts : Front → Given → Parts
+spec_parts front given =
     let build = option_or given.build front.1.build in
     record {
       channel = option_or given.channel front.1.channel;
@@ -318,11 +287,11 @@ parts_of front given =
     }
 
 abbrev pub spec_cut : List ℕ → Option (List ℕ × List ℕ) → SpecRead Parts
-spec_cut text None = front_read text >>= λ front. Ok (parts_of front nothing)
+spec_cut text None = front_read text >>= λ front. Ok (spec_parts front nothing)
 spec_cut text (Some cut) = do
   front ← front_read cut.0
   given ← items_read nothing (length cut.0 + 1) (items_of None cut.1)
-  Ok (parts_of front given)
+  Ok (spec_parts front given)
 
 -- what a specification without spaces at its ends says
 unfoldable pub spec_read : List ℕ → SpecRead Parts

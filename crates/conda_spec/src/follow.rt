@@ -5,8 +5,8 @@ ghost use Rattle.conda_base.specs.Texts.{begins_with, cut_first};
 ghost use Rattle.conda_base.specs.Reads.{Gives};
 ghost use Rattle.conda_clause.specs.Faults.{spec_fault_of};
 ghost use Rattle.conda_spec.specs.Good.{IsGoodClause, IsVersionAndBuild, stood};
-ghost use Rattle.conda_spec.specs.Parts.{IsFreeWord, bars_build};
-ghost use Rattle.conda_spec.specs.Reading.{build_word, clause_at, equal_at, equals_read, followed_read, is_comparison, is_equal_word, is_sign, is_sign_or_equals, joined_read, lead_of, spaced_read, version_of, wanted_read, words_read};
+ghost use Rattle.conda_spec.specs.Parts.{bars_build, is_comparison, is_sign, is_sign_or_equals, IsFreeWord};
+ghost use Rattle.conda_spec.specs.Reading.{build_word, clause_at, equal_at, equals_read, followed_read, is_equal_word, joined_read, lead_of, spaced_read, version_of, wanted_read, two_words_read};
 
 use crate::cuts::{begins_with, behind};
 use crate::places::Places;
@@ -36,9 +36,9 @@ fn build_word(alloc: Global, places: &Places, start: usize, text: &str) -> Resul
 }
 
 // A version clause, and a build as a second word.
-#[tactic(auto, unfolding(crate::specs::Reading::words_read))]
+#[tactic(auto, unfolding(crate::specs::Reading::two_words_read))]
 fn words(alloc: Global, places: &Places, text: &str) -> Result<VersionAndBuild, SpecErr>
-    ensures read { Gives spec_fault_of result (words_read (stood places.now) text.now) }
+    ensures read { Gives spec_fault_of result (two_words_read (stood places.now) text.now) }
     ensures good { IfOk result IsVersionAndBuild }
 {
     match cut_first(text, b' ') {

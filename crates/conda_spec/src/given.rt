@@ -1,5 +1,6 @@
 ghost use Rattle.std.specs.Prelude.{◌≡◌};
-ghost use Rattle.conda_spec.specs.Good.{IsGiven};
+ghost use Rattle.conda_spec.specs.Good.{IsGoodGiven};
+ghost use Rattle.conda_spec.specs.Parts as parts;
 ghost use Rattle.conda_spec.specs.Reading as reading;
 
 use crate::follow::VersionAndBuild;
@@ -28,8 +29,8 @@ pub enum ItemKey {
 
 /// Nothing is given.
 pub fn nothing() -> Given
-    ensures value { result ≡ reading.nothing }
-    ensures good { IsGiven result }
+    ensures value { result ≡ parts.nothing }
+    ensures good { IsGoodGiven result }
 {
     Given {
         channel: None,

@@ -3,9 +3,9 @@ ghost use Rattle.std.specs.Char.{to_ascii_lowercase};
 ghost use Rattle.std.specs.List.{before_first, position_or_len};
 ghost use Rattle.conda_base.specs.Reads.{Gives};
 ghost use Rattle.conda_clause.specs.Faults.{spec_fault_of};
-ghost use Rattle.conda_spec.specs.Good.{IsFront, IsGiven};
-ghost use Rattle.conda_spec.specs.Parts.{is_name_char};
-ghost use Rattle.conda_spec.specs.Reading.{channel_read, ends_name, front_read, named_read};
+ghost use Rattle.conda_spec.specs.Good.{IsGoodFront, IsGoodGiven};
+ghost use Rattle.conda_spec.specs.Parts.{ends_name, is_name_char};
+ghost use Rattle.conda_spec.specs.Reading.{channel_read, front_read, name_read};
 
 use crate::cuts::cut_colons;
 use crate::follow::followed;
@@ -59,12 +59,12 @@ fn lowered(alloc: Global, text: &str) -> Result<Text, AllocError>
 }
 
 // A name and what follows it, from a place on.
-#[tactic(auto, unfolding(crate::specs::Reading::named_read))]
+#[tactic(auto, unfolding(crate::specs::Reading::name_read))]
 fn named(alloc: Global, given: Given, at: usize, text: &str) -> Result<Front, SpecErr>
     requires room { at + length text.now < 18446744073709551616 }
-    requires good { IsGiven given }
-    ensures read { Gives spec_fault_of result (named_read given at text.now) }
-    ensures good { IfOk result IsFront }
+    requires good { IsGoodGiven given }
+    ensures read { Gives spec_fault_of result (name_read given at text.now) }
+    ensures good { IfOk result IsGoodFront }
 {
     let (name, rest) = name_cut(text);
     if name.len() == 0 {
@@ -79,7 +79,7 @@ fn named(alloc: Global, given: Given, at: usize, text: &str) -> Result<Front, Sp
 #[tactic(auto, unfolding(crate::specs::Reading::channel_read))]
 fn channel(alloc: Global, text: &str) -> Result<Given, SpecErr>
     ensures read { Gives spec_fault_of result (channel_read text.now) }
-    ensures good { IfOk result IsGiven }
+    ensures good { IfOk result IsGoodGiven }
 {
     let mut given = nothing();
     match cut_first(text, b'/') {
@@ -99,7 +99,7 @@ fn channel(alloc: Global, text: &str) -> Result<Given, SpecErr>
 #[tactic(auto, unfolding(crate::specs::Reading::front_read))]
 pub fn front(alloc: Global, text: &str) -> Result<Front, SpecErr>
     ensures read { Gives spec_fault_of result (front_read text.now) }
-    ensures good { IfOk result IsFront }
+    ensures good { IfOk result IsGoodFront }
 {
     match cut_colons(text) {
         None => named(alloc, nothing(), 0, text),

@@ -5,9 +5,11 @@ ghost use Rattle.conda_base.specs.Texts.{is_byte};
 ghost use Rattle.conda_base.specs.Numbers.{digits_below};
 ghost use Rattle.conda_base.specs.Reads.{Gives};
 ghost use Rattle.conda_clause.specs.Faults.{spec_fault_of};
-ghost use Rattle.conda_spec.specs.Good.{IsGoodClause, IsGiven};
+ghost use Rattle.conda_spec.specs.Good.{IsGoodClause, IsGoodGiven};
+ghost use Rattle.conda_spec.specs.Parts as parts;
 ghost use Rattle.conda_spec.specs.Reading as reading;
-ghost use Rattle.conda_spec.specs.Reading.{bars_bare, clause_value, has_key, is_quote, item_end, item_read, items_of, items_read, key_of, number_or, put, quote_behind, value_of};
+ghost use Rattle.conda_spec.specs.Parts.{bars_bare, is_quote};
+ghost use Rattle.conda_spec.specs.Reading.{clause_value, has_key, item_end, item_read, items_of, items_read, key_of, number_or, put, quote_behind, value_of};
 
 use crate::cuts::{behind, without_last};
 use crate::given::{Given, ItemKey, nothing};
@@ -171,9 +173,9 @@ fn put(
     text: &str,
 ) -> Result<Given, SpecErr>
     requires room { place + length text.now < 18446744073709551616 }
-    requires good { IsGiven given }
+    requires good { IsGoodGiven given }
     ensures read { Gives spec_fault_of result (put given key at (place, text.now)) }
-    ensures good { IfOk result IsGiven }
+    ensures good { IfOk result IsGoodGiven }
 {
     let mut given = given;
     match key {
@@ -190,9 +192,9 @@ fn put(
 #[tactic(auto, unfolding(crate::specs::Reading::item_read))]
 fn item(alloc: Global, given: Given, at: usize, text: &str) -> Result<Given, SpecErr>
     requires room { at + length text.now < 18446744073709551616 }
-    requires good { IsGiven given }
+    requires good { IsGoodGiven given }
     ensures read { Gives spec_fault_of result (item_read given at text.now) }
-    ensures good { IfOk result IsGiven }
+    ensures good { IfOk result IsGoodGiven }
 {
     let Some((key, value)) = cut_first(text, b'=') else {
         return Err(fault(at, SpecWhy::Key));
@@ -214,8 +216,8 @@ fn item(alloc: Global, given: Given, at: usize, text: &str) -> Result<Given, Spe
 /// The items in the brackets, of which the first begins at a place.
 pub fn items(alloc: Global, start: usize, text: &str) -> Result<Given, SpecErr>
     requires { start + length text.now < 18446744073709551616 }
-    ensures read { Gives spec_fault_of result (items_read reading.nothing start (items_of None text.now)) }
-    ensures good { IfOk result IsGiven }
+    ensures read { Gives spec_fault_of result (items_read parts.nothing start (items_of None text.now)) }
+    ensures good { IfOk result IsGoodGiven }
 {
     let mut given = nothing();
     let mut at = start;

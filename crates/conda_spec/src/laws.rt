@@ -6,7 +6,7 @@ ghost use Rattle.conda_spec.specs.Reading.{spec_read};
 ghost use Rattle.conda_spec.specs.Text.{spec_text};
 
 use conda_base::{cut_laws, number_laws};
-use conda_clause::clause_laws;
+use conda_clause as clause;
 
 /// The texts that are read are those of the grammar, and no others, each with the parts that the grammar gives it. So each text of
 /// the grammar has one list of parts.
@@ -16,7 +16,9 @@ pub fn grammar_laws()
 {
     cut_laws();
     number_laws();
-    clause_laws();
+    clause::clause_laws();
+    clause::grammar_laws();
+    clause::beside_laws();
 }
 
 /// The normal form of a specification is read as that specification.
@@ -25,5 +27,7 @@ pub fn normal_form_law()
 {
     cut_laws();
     number_laws();
-    clause_laws();
+    clause::clause_laws();
+    clause::grammar_laws();
+    clause::beside_laws();
 }

@@ -2,9 +2,9 @@ ghost use Rattle.std.specs.Prelude.{◌≡◌, ◌+◌, IfOk, IfSome, IsSome, Ma
 ghost use Rattle.conda_clause.specs.Clause.{beside_build};
 ghost use Rattle.conda_base.specs.Reads.{Gives};
 ghost use Rattle.conda_clause.specs.Faults.{spec_fault_of};
-ghost use Rattle.conda_spec.specs.Good.{IsGoodClause, IsFront, IsGiven};
+ghost use Rattle.conda_spec.specs.Good.{IsGoodClause, IsGoodFront, IsGoodGiven};
 ghost use Rattle.conda_spec.specs.Parts.{IsSpec};
-ghost use Rattle.conda_spec.specs.Reading.{brackets_of, parts_of, spec_read, version_beside};
+ghost use Rattle.conda_spec.specs.Reading.{brackets_of, spec_parts, spec_read, version_beside};
 
 use crate::cuts::without_last;
 use crate::given::{Given, nothing};
@@ -50,9 +50,9 @@ fn version_beside(
 
 // What is given in the brackets wins.
 fn spec_of(alloc: Global, front: Front, given: Given) -> Result<Spec, AllocError>
-    requires front { IsFront front }
-    requires given { IsGiven given }
-    ensures value { IfOk result (λ s. s ≡ parts_of front given) }
+    requires front { IsGoodFront front }
+    requires given { IsGoodGiven given }
+    ensures value { IfOk result (λ s. s ≡ spec_parts front given) }
     ensures good { IfOk result IsSpec }
 {
     let (name, before) = front;

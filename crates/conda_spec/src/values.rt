@@ -5,7 +5,8 @@ ghost use Rattle.conda_base.specs.Texts.{ends_with};
 ghost use Rattle.conda_base.specs.Reads.{Gives};
 ghost use Rattle.conda_clause.specs.Faults.{spec_fault_of};
 ghost use Rattle.conda_spec.specs.Good.{IsGoodClause, stood};
-ghost use Rattle.conda_spec.specs.Parts.{IsFreeWord, bars_build, bars_channel, is_one_of};
+ghost use Rattle.conda_clause.specs.Spaces.{is_one_of};
+ghost use Rattle.conda_spec.specs.Parts.{IsFreeWord, bars_build, bars_channel};
 ghost use Rattle.conda_spec.specs.Reading.{build_at, channel_at, clause_at, equal_at, is_free};
 
 use crate::places::Places;

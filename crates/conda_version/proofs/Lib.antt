@@ -8,3 +8,4 @@ pub mod TurnLemmas
 pub mod VersionLemmas
 pub mod OrderLemmas
 pub mod StartLemmas
+pub mod AlikeLemmas

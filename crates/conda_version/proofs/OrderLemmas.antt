@@ -9,7 +9,7 @@ use Rattle.std.proofs.lemmas.Cmp.{lists_total, nat_cmp_total, on_total, then_tot
 use Rattle.conda_version.specs.declared.run.Run.{Run}
 use Rattle.conda_version.specs.declared.run.Run.TheVariants.{Number, Post, Word}
 use Rattle.conda_version.specs.Grammar.{meaning}
-use Rattle.conda_version.specs.Order.{components_cmp, meaning_cmp, numbered, padded_cmp, run_cmp, version_cmp}
+use Rattle.conda_version.specs.Order.{components_cmp, meaning_cmp, epoch_and_main, padded_cmp, run_cmp, runs_cmp, version_cmp}
 
 -- A run by its rank among the kinds, its number and its text.
 rank : Run → ℕ
@@ -47,7 +47,7 @@ run_cmp_is (Word x) (Number n) = refl
 run_cmp_is (Word x) Post = refl
 run_cmp_is (Word x) (Word y) = refl
 
-run_total : IsTotalOrder run_cmp
+pub run_total : IsTotalOrder run_cmp
 unfolding by_parts
 run_total =
     let parts : IsTotalOrder by_parts = then_total (on_total rank nat_cmp_total) (then_total (on_total number nat_cmp_total) (on_total word nat_list_cmp_total)) in
@@ -89,11 +89,14 @@ module _ {A : Type 0} {cmp : A → A → Ordering} (total : IsTotalOrder cmp) (p
             ∙ sym (padded_is n ys zs (omega arith) (omega arith));
       }
 
-components_total : IsTotalOrder components_cmp
-components_total = padded_total (padded_total run_total (Number 0)) []
+pub runs_total : IsTotalOrder runs_cmp
+runs_total = padded_total run_total (Number 0)
+
+pub components_total : IsTotalOrder components_cmp
+components_total = padded_total runs_total []
 
 meaning_total : IsTotalOrder meaning_cmp
-meaning_total = then_total (on_total numbered components_total) (on_total (λ v. v.local) components_total)
+meaning_total = then_total (on_total epoch_and_main components_total) (on_total (λ v. v.local) components_total)
 
 pub version_total : IsTotalOrder version_cmp
 version_total = on_total meaning meaning_total

@@ -12,7 +12,7 @@ use Rattle.std.specs.Char.{is_ascii_digit}
 use Rattle.std.specs.List.{list_all, prefix_len}
 use Rattle.std.specs.Str.{all_ascii_digits}
 use Rattle.conda_base.specs.Numbers.{is_digits}
-use Rattle.conda_version.specs.Grammar.{HasShortRuns, HasValue, joined, numeral_from, run_len, runs_of}
+use Rattle.conda_version.specs.Grammar.{HasShortRuns, HasValue, onto_runs, numeral_from, run_len, runs_of}
 use Rattle.conda_version.specs.Versions.{as_dot, begins_with_digit, main_dots}
 
 abbrev pub like : Bool → ℕ → Bool
@@ -70,7 +70,7 @@ stops k (x ∷ xs) = by_kind (is_ascii_digit x) (like k x) refl refl (stops k xs
         other false false h = absurd cc
 
 -- runs that a character joins begin with it
-joined_front : (b : ℕ) (runs : List (List ℕ)) → (run : List ℕ) × (more : List (List ℕ)) × (joined b runs ≡ (b ∷ run) ∷ more)
+joined_front : (b : ℕ) (runs : List (List ℕ)) → (run : List ℕ) × (more : List (List ℕ)) × (onto_runs b runs ≡ (b ∷ run) ∷ more)
 joined_front b [] = ([], [], refl)
 joined_front b ([] ∷ runs) = ([], runs, refl)
 joined_front b ((c ∷ run) ∷ runs) = by_kind (beq (is_ascii_digit b) (is_ascii_digit c))
@@ -86,14 +86,14 @@ run_front k (b ∷ []) (c ∷ cs) some h o =
     let first = and_parts (like k b) true h in
     let apart : beq (is_ascii_digit b) (is_ascii_digit c) ≡ false = ap (λ d. beq d (is_ascii_digit c)) (kind_is k (is_ascii_digit b) first.0) ∙ unlike k (is_ascii_digit c) o in
     let next = joined_front c (runs_of cs) in
-    ap (joined b) next.2
+    ap (onto_runs b) next.2
     ∙ ap (λ q. cond q ((b ∷ c ∷ next.0) ∷ next.1) ((b ∷ []) ∷ (c ∷ next.0) ∷ next.1)) apart
     ∙ ap (λ runs. (b ∷ []) ∷ runs) (sym next.2)
 run_front k (b ∷ c ∷ cs) more some h o =
     let first = and_parts (like k b) (list_all (like k) (c ∷ cs)) h in
     let second = and_parts (like k c) (list_all (like k) cs) first.1 in
     let alike : beq (is_ascii_digit b) (is_ascii_digit c) ≡ true = ap (λ d. beq d (is_ascii_digit c)) (kind_is k (is_ascii_digit b) first.0) ∙ second.0 in
-    ap (joined b) (run_front k (c ∷ cs) more (omega arith) first.1 o)
+    ap (onto_runs b) (run_front k (c ∷ cs) more (omega arith) first.1 o)
     ∙ ap (λ q. cond q ((b ∷ c ∷ cs) ∷ runs_of more) ((b ∷ []) ∷ (c ∷ cs) ∷ runs_of more)) alike
 
 -- the first run, and the runs behind it

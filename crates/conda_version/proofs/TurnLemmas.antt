@@ -11,7 +11,7 @@ use Rattle.std.specs.List.{concat, list_all, prefix_len}
 use Rattle.std.specs.Str.{all_ascii_digits}
 use Rattle.conda_base.specs.Numbers.{is_digits}
 use Rattle.conda_version.specs.declared.run.Run.{Run}
-use Rattle.conda_version.specs.Grammar.{HasShortRuns, component_of, joined, run_len, runs_of}
+use Rattle.conda_version.specs.Grammar.{HasShortRuns, component_of, onto_runs, run_len, runs_of}
 use Rattle.conda_version.specs.Versions.{IsComponent, IsRun, TakeTurns, begins_with_digit, is_letter, run_of, with_zero}
 use Rattle.conda_version.proofs.RunLemmas.{all_digits, all_of_prefix, OtherKind, beq_self, first_run_value, kind_is, like, run_front, run_some, runs_first, short_of_drop, stops}
 
@@ -95,7 +95,7 @@ turns_of (suc n) (b ∷ bs) h short chars =
     subst (TakeTurns (begins_with_digit w)) (sym (runs_first w long))
     (first_is w long short chars, turns_other (begins_with_digit w) (drop m w) (stops (begins_with_digit w) w) rest)
 
-concat_joined : (b : ℕ) (runs : List (List ℕ)) → concat (joined b runs) ≡ b ∷ concat runs
+concat_joined : (b : ℕ) (runs : List (List ℕ)) → concat (onto_runs b runs) ≡ b ∷ concat runs
 concat_joined b [] = refl
 concat_joined b ([] ∷ runs) = refl
 concat_joined b ((c ∷ run) ∷ runs) = by_kind (beq (is_ascii_digit b) (is_ascii_digit c))

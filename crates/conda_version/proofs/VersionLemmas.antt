@@ -16,7 +16,7 @@ use Rattle.conda_base.specs.Texts.{IsFreeOf, cut_first, ends_with, is_byte, is_e
 use Rattle.conda_version.specs.declared.error.VersionWhy.{VersionWhy}
 use Rattle.conda_version.specs.declared.error.VersionWhy.TheVariants.{Empty, Char, Epoch, Local, Component, Numeral}
 use Rattle.conda_version.specs.declared.run.Run.{Run}
-use Rattle.conda_version.specs.Grammar.{HasShortRuns, because, behind_epoch, char_fault, component_fault, component_of, components_of, empty_fault, empty_from, empty_local, epoch_fault, epoch_part, fault, fault_at_epoch, fault_at_local, is_part_char, is_plain, local_fault, local_part, main_part, main_start, mark_from, marks_fault, meaning, numeral_from, offence, pieces, plain_meaning}
+use Rattle.conda_version.specs.Grammar.{HasShortRuns, because, behind_epoch, char_fault, component_fault, component_of, components_of, empty_fault, empty_from, empty_local, epoch_fault, epoch_part, fault, fault_at_epoch, fault_at_local, is_part_char, is_plain, local_fault, local_part, main_part, main_start, mark_from, marks_fault, meaning, numeral_from, offence, dotted_parts, plain_meaning}
 use Rattle.conda_version.specs.Versions.{AreComponents, IsEpoch, IsLocal, IsNumeral, IsVersion, IsVersionText, Meaning, as_dot, epoch_text, local_text, main_dots}
 use Rattle.conda_version.specs.Order.{meaning_cmp, meaning_starts, version_cmp, version_starts}
 use Rattle.conda_version.specs.Text.{holds, plain, underscored}
@@ -32,11 +32,11 @@ first_half halves = halves.0
 abbrev second_half : List ℕ × List ℕ → List ℕ
 second_half halves = halves.1
 
--- ---- a dotted text whose pieces are sound has components
+-- ---- a dotted text whose parts are sound has components
 
-pieces_free : (xs : List ℕ) → AllByRecursion (IsFreeOf dot) (pieces xs)
+pieces_free : (xs : List ℕ) → AllByRecursion (IsFreeOf dot) (dotted_parts xs)
 pieces_free [] = (tt, tt)
-pieces_free (b ∷ bs) = by_dot (b == dot) refl (pieces bs) (pieces_free bs)
+pieces_free (b ∷ bs) = by_dot (b == dot) refl (dotted_parts bs) (pieces_free bs)
   where
     by_dot : (k : Bool) → (b == dot) ≡ k → (ps : List (List ℕ)) → AllByRecursion (IsFreeOf dot) ps → AllByRecursion (IsFreeOf dot) (cond k ([] ∷ ps) (onto_first b ps))
     by_dot true e ps h = (tt, h)
@@ -81,12 +81,12 @@ joined_sound at (p ∷ q ∷ ps) some short chars free none =
       joined_sound (at + length p + 1) (q ∷ ps) (omega arith) (short_back (dot ∷ []) rest (short_back p (dot ∷ rest) short)) parts.1 free.1 next.1,
     )
 
-pub part_sound : (at : ℕ) (dotted : List ℕ) → HasShortRuns dotted → list_all is_part_char dotted ≡ true → empty_from at (pieces dotted) ≡ None → AreComponents dotted (components_of dotted)
+pub part_sound : (at : ℕ) (dotted : List ℕ) → HasShortRuns dotted → list_all is_part_char dotted ≡ true → empty_from at (dotted_parts dotted) ≡ None → AreComponents dotted (components_of dotted)
 part_sound at dotted short chars none =
-    let whole : join_with_byte dot (pieces dotted) ≡ dotted = join_with_byte-slice_split dot dotted in
-    let some : 0 < length (pieces dotted) = omega (arith, length-slice_split (is_byte dot) dotted) in
+    let whole : join_with_byte dot (dotted_parts dotted) ≡ dotted = join_with_byte-slice_split dot dotted in
+    let some : 0 < length (dotted_parts dotted) = omega (arith, length-slice_split (is_byte dot) dotted) in
     subst (λ text. AreComponents text (components_of dotted)) whole
-    (joined_sound at (pieces dotted) some (subst HasShortRuns (sym whole) short) (ap (list_all is_part_char) whole ∙ chars) (pieces_free dotted) none)
+    (joined_sound at (dotted_parts dotted) some (subst HasShortRuns (sym whole) short) (ap (list_all is_part_char) whole ∙ chars) (pieces_free dotted) none)
 
 -- ---- how texts end
 
@@ -114,17 +114,17 @@ ends_undotted (x ∷ y ∷ xs) h = ends_step dot x y xs ∙ ends_undotted (y ∷
 
 pub record IsDotted (text : List ℕ) (components : List (List Run)) : Type 0 where
   pub value : components_of text ≡ components
-  pub none : (at : ℕ) → empty_from at (pieces text) ≡ None
+  pub none : (at : ℕ) → empty_from at (dotted_parts text) ≡ None
   pub some : 0 < length text
   pub short : HasShortRuns text
   pub chars : list_all is_part_char text ≡ true
   pub ends : ends_with dot text ≡ false
 
-split_front : (front rest : List ℕ) → IsFreeOf dot front → pieces (front ++ dot ∷ rest) ≡ front ∷ pieces rest
+split_front : (front rest : List ℕ) → IsFreeOf dot front → dotted_parts (front ++ dot ∷ rest) ≡ front ∷ dotted_parts rest
 split_front [] rest h = refl
 split_front (b ∷ front) rest h = slice_split-cons_no (is_byte dot) b (front ++ dot ∷ rest) h.0 ∙ ap (onto_first b) (split_front front rest h.1)
 
-split_free : (xs : List ℕ) → IsFreeOf dot xs → pieces xs ≡ xs ∷ []
+split_free : (xs : List ℕ) → IsFreeOf dot xs → dotted_parts xs ≡ xs ∷ []
 split_free [] h = refl
 split_free (b ∷ bs) h = slice_split-cons_no (is_byte dot) b bs h.0 ∙ ap (onto_first b) (split_free bs h.1)
 
@@ -164,7 +164,7 @@ part_again text (component ∷ next ∷ more) h =
     let split = split_front front rest (piece_free front piece.chars) in
     subst (λ t. IsDotted t (component ∷ next ∷ more)) (sym h.2) (record {
       value = ap (map component_of) split ∙ ap (λ c. c ∷ components_of rest) piece.value ∙ ap (λ cs. component ∷ cs) behind.value;
-      none = λ at. ap (empty_from at) split ∙ none_of front at (empty_from (at + length front + 1) (pieces rest)) piece.some (behind.none (at + length front + 1));
+      none = λ at. ap (empty_from at) split ∙ none_of front at (empty_from (at + length front + 1) (dotted_parts rest)) piece.some (behind.none (at + length front + 1));
       some = long front rest;
       short = short_before front dot rest refl piece.short behind.short;
       chars = all_both is_part_char front (dot ∷ rest) (all_as is_piece_char is_part_char part_char front piece.chars) behind.chars;
@@ -190,7 +190,7 @@ record IsSound (text : List ℕ) : Type 0 where
   chars : char_fault text ≡ None
   epoch : epoch_fault text ≡ None
   local : local_fault text ≡ None
-  main_components : empty_from (main_start text) (pieces (main_dots (main_part text))) ≡ None
+  main_components : empty_from (main_start text) (dotted_parts (main_dots (main_part text))) ≡ None
   local_components : option_and_then (empty_local text) (local_part text) ≡ None
   numerals : numeral_from 0 text ≡ None
 
@@ -202,7 +202,7 @@ sound_from text h =
     let behind : Option (ℕ × VersionWhy) = option_or (because Epoch (epoch_fault text)) (because Local (local_fault text)) in
     let chars = first_none (because Char (char_fault text)) behind (first_none (because Empty (empty_fault text)) (option_or (because Char (char_fault text)) behind) marks.0).1 in
     let parts = first_none (because Epoch (epoch_fault text)) (because Local (local_fault text)) chars.1 in
-    let empties = first_none (empty_from (main_start text) (pieces (main_dots (main_part text))))
+    let empties = first_none (empty_from (main_start text) (dotted_parts (main_dots (main_part text))))
     (option_and_then (empty_local text) (local_part text))
     (because_none Component (component_fault text) components.0) in
     record {
@@ -496,7 +496,7 @@ version_again cuts text version v =
       epoch = ap (option_and_then fault_at_epoch) first ∙ front.good rest free;
       local = ap (option_and_then (fault_at_local (main_start whole))) second
           ∙ back.good main (main_start whole) (some_main main dotted.some);
-      main_components = ap (λ m. empty_from (main_start whole) (pieces (main_dots m))) main_is ∙ dotted.none (main_start whole);
+      main_components = ap (λ m. empty_from (main_start whole) (dotted_parts (main_dots m))) main_is ∙ dotted.none (main_start whole);
       local_components = ap (option_and_then (empty_local whole)) local_is ∙ back.none whole;
       numerals = numeral_none 0 whole (front.short rest (back.short main (short_unmain main dotted.short))).each;
     } in

@@ -37,27 +37,27 @@ abbrev pub local_part : List ℕ → Option (List ℕ)
 local_part text = option_map (λ halves. halves.1) (cut_first plus (behind_epoch text))
 
 -- what `.` parts
-abbrev pub pieces : List ℕ → List (List ℕ)
-pieces dotted = slice_split (is_byte dot) dotted
+abbrev pub dotted_parts : List ℕ → List (List ℕ)
+dotted_parts dotted = slice_split (is_byte dot) dotted
 
 -- ---- the runs of a component
 
 -- a character before runs: it joins the first run where both are digits or neither is
-abbrev pub joined : ℕ → List (List ℕ) → List (List ℕ)
-joined b [] = (b ∷ []) ∷ []
-joined b ([] ∷ runs) = (b ∷ []) ∷ runs
-joined b ((c ∷ run) ∷ runs) = if beq (is_ascii_digit b) (is_ascii_digit c) then (b ∷ c ∷ run) ∷ runs else (b ∷ []) ∷ (c ∷ run) ∷ runs
+abbrev pub onto_runs : ℕ → List (List ℕ) → List (List ℕ)
+onto_runs b [] = (b ∷ []) ∷ []
+onto_runs b ([] ∷ runs) = (b ∷ []) ∷ runs
+onto_runs b ((c ∷ run) ∷ runs) = if beq (is_ascii_digit b) (is_ascii_digit c) then (b ∷ c ∷ run) ∷ runs else (b ∷ []) ∷ (c ∷ run) ∷ runs
 
 -- neighbours stand in one run where both are digits or neither is
 abbrev pub runs_of : List ℕ → List (List ℕ)
 runs_of [] = []
-runs_of (b ∷ bs) = joined b (runs_of bs)
+runs_of (b ∷ bs) = onto_runs b (runs_of bs)
 
 abbrev pub component_of : List ℕ → List Run
 component_of piece = with_zero (begins_with_digit piece) (map run_of (runs_of piece))
 
 abbrev pub components_of : List ℕ → List (List Run)
-components_of dotted = map component_of (pieces dotted)
+components_of dotted = map component_of (dotted_parts dotted)
 
 -- ---- what a plain text means
 
@@ -112,14 +112,14 @@ local_fault text = option_and_then (fault_at_local (main_start text)) (cut_first
 -- where the first empty one of these components would begin, of which the first stands at a place
 abbrev pub empty_from : ℕ → List (List ℕ) → Option ℕ
 empty_from at [] = None
-empty_from at (piece ∷ pieces) = if length piece == 0 then Some at else empty_from (at + length piece + 1) pieces
+empty_from at (piece ∷ more) = if length piece == 0 then Some at else empty_from (at + length piece + 1) more
 
 -- the same of a local part at the end of a text
 abbrev pub empty_local : List ℕ → List ℕ → Option ℕ
-empty_local text local = empty_from (length text - length local) (pieces (map as_dot local))
+empty_local text local = empty_from (length text - length local) (dotted_parts (map as_dot local))
 
 abbrev pub component_fault : List ℕ → Option ℕ
-component_fault text = option_or (empty_from (main_start text) (pieces (main_dots (main_part text)))) (option_and_then (empty_local text) (local_part text))
+component_fault text = option_or (empty_from (main_start text) (dotted_parts (main_dots (main_part text)))) (option_and_then (empty_local text) (local_part text))
 
 -- the first place from which more than 38 digits stand in a row
 abbrev pub numeral_from : ℕ → List ℕ → Option ℕ

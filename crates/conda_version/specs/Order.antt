@@ -39,12 +39,12 @@ abbrev pub components_cmp : List (List Run) → List (List Run) → Ordering
 components_cmp = padded_cmp runs_cmp []
 
 -- the components in front of the local part, of which the epoch is the first
-abbrev pub numbered : Meaning → List (List Run)
-numbered version = (Number version.epoch ∷ []) ∷ version.main
+abbrev pub epoch_and_main : Meaning → List (List Run)
+epoch_and_main version = (Number version.epoch ∷ []) ∷ version.main
 
 -- The order of versions: epoch and main part first. Local parts are compared where all else is equal.
 abbrev pub meaning_cmp : Meaning → Meaning → Ordering
-meaning_cmp v w = ordering_then (components_cmp (numbered v) (numbered w)) (components_cmp v.local w.local)
+meaning_cmp v w = ordering_then (components_cmp (epoch_and_main v) (epoch_and_main w)) (components_cmp v.local w.local)
 
 -- the order of two versions by their texts
 abbrev pub version_cmp : List ℕ → List ℕ → Ordering
@@ -72,8 +72,8 @@ components_start = all_begin (λ x y. is_eq (runs_cmp x y)) runs_start []
 -- Where y has a local part, epoch and main part are equal and the local parts decide. Else epoch and main part decide.
 abbrev pub meaning_starts : Meaning → Meaning → Bool
 meaning_starts x y =
-    if is_empty y.local then components_start (numbered x) (numbered y)
-    else is_eq (components_cmp (numbered x) (numbered y)) && components_start x.local y.local
+    if is_empty y.local then components_start (epoch_and_main x) (epoch_and_main y)
+    else is_eq (components_cmp (epoch_and_main x) (epoch_and_main y)) && components_start x.local y.local
 
 -- the version x starts with y, by their texts
 abbrev pub version_starts : List ℕ → List ℕ → Bool

@@ -4,7 +4,7 @@ ghost use Rattle.std.specs.Char.{is_ascii_digit};
 ghost use Rattle.std.specs.List.{list_all};
 ghost use Rattle.std.specs.Str.Parse.{digits_value};
 ghost use Rattle.conda_version.specs.Grammar.{HasShortRuns, HasValue, because, component_fault, component_of, components_of, epoch_fault, epoch_of, fault, local_part, main_part, plain_meaning, run_len, IsCause};
-ghost use Rattle.conda_version.specs.Order.{numbered};
+ghost use Rattle.conda_version.specs.Order.{epoch_and_main};
 ghost use Rattle.conda_version.specs.Versions.{as_dot, begins_with_digit, main_dots, run_of};
 ghost use Rattle.conda_version.specs.declared.error.VersionWhy.TheVariants.{Component};
 ghost use Rattle.conda_version.specs.declared.error.VersionErr.TheVariants.{BadVersion};
@@ -170,7 +170,7 @@ fn built(alloc: Global, text: &[u8], dotted: &Dotted) -> Result<Parts, AllocErro
     requires short { HasShortRuns text.now }
     requires main { dotted.now.main.items ≡ main_dots (main_part text.now) }
     requires local { option_map (λ v. v.items) dotted.now.local ≡ option_map (map as_dot) (local_part text.now) }
-    ensures main { IfOk result (λ parts. parts.main ≡ numbered (plain_meaning text.now)) }
+    ensures main { IfOk result (λ parts. parts.main ≡ epoch_and_main (plain_meaning text.now)) }
     ensures local { IfOk result (λ parts. parts.local ≡ (plain_meaning text.now).local) }
 {
     cut_laws();
@@ -189,7 +189,7 @@ fn built(alloc: Global, text: &[u8], dotted: &Dotted) -> Result<Parts, AllocErro
 /// Reads a plain text.
 pub fn parts_of(alloc: Global, text: &[u8]) -> Result<Parts, VersionErr>
     ensures good { OnOk result (fault text.now ≡ None) }
-    ensures main { IfOk result (λ parts. parts.main ≡ numbered (plain_meaning text.now)) }
+    ensures main { IfOk result (λ parts. parts.main ≡ epoch_and_main (plain_meaning text.now)) }
     ensures local { IfOk result (λ parts. parts.local ≡ (plain_meaning text.now).local) }
     ensures bad { IfErr result (λ e. IsCause e (fault text.now)) }
 {

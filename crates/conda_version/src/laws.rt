@@ -14,7 +14,7 @@ use conda_base::cut_laws;
 
 /// The order of versions is a total preorder: versions that it finds equal may have other texts. It is the order of
 /// what the texts mean by the grammar: of epoch and main part, and of the local parts where these are equal.
-/// Which version starts with which goes by what they mean too.
+/// Which version starts with which goes by what they mean too, so that two equal ones start with the same versions.
 pub fn order_laws()
     ensures means { (x y : List ℕ) (v w : Meaning) → IsVersionText x v → IsVersionText y w → version_cmp x y ≡ meaning_cmp v w }
     ensures starts { (x y : List ℕ) (v w : Meaning) → IsVersionText x v → IsVersionText y w → version_starts x y ≡ meaning_starts v w }
@@ -22,6 +22,7 @@ pub fn order_laws()
     ensures transitive { (u v w : List ℕ) → is_le (version_cmp u v) ≡ true → is_le (version_cmp v w) ≡ true → is_le (version_cmp u w) ≡ true }
     ensures total { (v w : List ℕ) → version_cmp v w ≡ ordering_reverse (version_cmp w v) }
     ensures equals { (u v w : List ℕ) → version_cmp u v ≡ Equal → version_cmp u w ≡ version_cmp v w }
+    ensures alike { (u v w : List ℕ) → version_cmp u v ≡ Equal → version_starts u w ≡ version_starts v w }
 {
     cut_laws();
 }

@@ -4,7 +4,7 @@ ghost use Rattle.std.specs.Option.{option_map};
 ghost use Rattle.std.specs.Str.{all_ascii_digits};
 ghost use Rattle.conda_base.specs.Numbers.{is_digits};
 ghost use Rattle.conda_base.specs.Texts.{cut_first, is_byte};
-ghost use Rattle.conda_version.specs.Grammar.{behind_epoch, char_fault, empty_from, epoch_fault, epoch_part, is_plain, local_fault, local_part, main_part, main_start, mark_from, marks_fault, numeral_from, pieces};
+ghost use Rattle.conda_version.specs.Grammar.{behind_epoch, char_fault, empty_from, epoch_fault, epoch_part, is_plain, local_fault, local_part, main_part, main_start, mark_from, marks_fault, numeral_from, dotted_parts};
 ghost use Rattle.conda_version.specs.Versions.{as_dot, main_dots};
 
 use crate::error::VersionWhy;
@@ -171,7 +171,7 @@ pub fn local_dots(alloc: Global, local: &[u8]) -> Result<Vec<u8>, AllocError>
 /// Where the first empty component of a dotted part would begin, which itself begins at a place.
 pub fn empty_from(start: usize, dotted: &[u8]) -> Option<usize>
     requires { start + length dotted.now < 2 ^ 64 }
-    ensures { result ≡ empty_from start (pieces dotted.now) }
+    ensures { result ≡ empty_from start (dotted_parts dotted.now) }
 {
     let mut at = start;
     let mut left = dotted;

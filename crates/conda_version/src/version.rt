@@ -26,16 +26,16 @@ pub struct Version {
 impl Model for Version {
     ghost use Rattle.std.specs.Prelude.{◌≡◌, List, None, ℕ};
     ghost use Rattle.conda_version.specs.Grammar.{meaning, offence};
-    ghost use Rattle.conda_version.specs.Order.{numbered};
+    ghost use Rattle.conda_version.specs.Order.{epoch_and_main};
     ghost use Rattle.conda_version.specs.Text.{trimmed};
 
     ghost Value = { List ℕ };
 
     ghost view = { λ v. v.text };
 
-    ghost inverse = { λ text. record { text = text; main = numbered (meaning text); local = (meaning text).local } };
+    ghost inverse = { λ text. record { text = text; main = epoch_and_main (meaning text); local = (meaning text).local } };
 
-    ghost invariant = { λ v. (offence v.text ≡ None) × (trimmed v.text ≡ v.text) × (v.main ≡ numbered (meaning v.text)) × (v.local ≡ (meaning v.text).local) };
+    ghost invariant = { λ v. (offence v.text ≡ None) × (trimmed v.text ≡ v.text) × (v.main ≡ epoch_and_main (meaning v.text)) × (v.local ≡ (meaning v.text).local) };
 }
 
 impl Version {

@@ -6,6 +6,7 @@ use Rattle.conda_clause.specs.Tree.{IsClause, IsPart, Tree, Writes, tree_holds}
 use Rattle.conda_clause.specs.Tree.Rank.{or}
 use Rattle.conda_clause.specs.Tree.Tree.{parens, part, single, test}
 use Rattle.conda_clause.specs.Truth.{clause_holds, tokens_true}
+use Rattle.conda_clause.proofs.AlikeLemmas.{clause_alike}
 use Rattle.conda_clause.proofs.SpellLemmas.{writes_means}
 use Rattle.conda_clause.proofs.TestLemmas.{NoDotEnd}
 use Rattle.conda_clause.proofs.TruthLemmas.{both_holds, both_of, both_writes, either_holds, either_of, either_writes, tree_true}
@@ -34,4 +35,6 @@ returns c =
       parens = λ a version h.
           tree law (open_paren ∷ a ++ close_paren ∷ []) (part (single (parens h.0))) (a, refl, h.1) version ∙ sym (tree law a h.0 h.1 version);
       alone = λ text t h version. tree law text (part (single (test t))) h version;
+      alike = λ text x y h.
+          clause_alike x y (record { order = λ w. c.order_laws.ensures.equals x y w h; begin = λ w. c.order_laws.ensures.alike x y w h }) text;
     }

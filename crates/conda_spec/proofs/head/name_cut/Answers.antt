@@ -1,6 +1,6 @@
 use Rattle.std.proofs.Common.{◌∙◌, ap}
 use Rattle.std.specs.List.{position_or_len}
-use Rattle.conda_spec.specs.Reading.{ends_name}
+use Rattle.conda_spec.specs.Parts.{ends_name}
 use Rattle.conda_spec.proofs.NameLemmas.{boundary}
 use Rattle.conda_spec.proofs.head.name_cut.Goals as goal
 

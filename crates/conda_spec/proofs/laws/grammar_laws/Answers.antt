@@ -3,7 +3,7 @@ use Rattle.conda_spec.proofs.GivesLemmas.{spec_gives}
 use Rattle.conda_spec.proofs.OnlyLemmas.{spec_only}
 use Rattle.conda_spec.proofs.laws.grammar_laws.Goals as goal
 
-laws : goal.After-clause_laws → Laws
+laws : goal.After-beside_laws → Laws
 laws c = record {
   first = c.cut_laws.ensures.first;
   last = c.cut_laws.ensures.last;
@@ -15,6 +15,9 @@ laws c = record {
   chars = c.clause_laws.ensures.chars;
   front = c.clause_laws.ensures.front;
   back = c.clause_laws.ensures.back;
+  clause = c.grammar_laws.ensures.only;
+  right = c.grammar_laws.ensures.all;
+  beside = c.beside_laws.ensures.written;
 }
 
 pub returns-clause-only : goal.returns-clause-only

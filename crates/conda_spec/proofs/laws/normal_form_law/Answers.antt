@@ -13,4 +13,7 @@ returns c = read_again (record {
   chars = c.clause_laws.ensures.chars;
   front = c.clause_laws.ensures.front;
   back = c.clause_laws.ensures.back;
+  clause = c.grammar_laws.ensures.only;
+  right = c.grammar_laws.ensures.all;
+  beside = c.beside_laws.ensures.written;
 })

@@ -1,7 +1,7 @@
 use Rattle.std.proofs.Common.{◌∙◌, sym}
 use Rattle.std.proofs.lemmas.Bool.{not-true}
 use Rattle.conda_spec.proofs.ValueLemmas.{free_is}
-use Rattle.conda_spec.specs.Parts.{is_one_of}
+use Rattle.conda_clause.specs.Spaces.{is_one_of}
 use Rattle.conda_spec.proofs.values.is_free.Goals as goal
 
 pub returns-then-text-gt0-clause-good : goal.returns-then-text-gt0-clause-good

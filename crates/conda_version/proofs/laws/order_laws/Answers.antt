@@ -1,5 +1,6 @@
 use Rattle.conda_version.proofs.CutLemmas.{cuts}
 use Rattle.std.proofs.lemmas.Cmp.{tied_itself}
+use Rattle.conda_version.proofs.AlikeLemmas.{version_begins}
 use Rattle.conda_version.proofs.OrderLemmas.{version_total, version_transitive}
 use Rattle.conda_version.proofs.VersionLemmas.{order_means, starts_means}
 use Rattle.conda_version.proofs.laws.order_laws.Goals as goal
@@ -21,3 +22,6 @@ returns-clause-means c = order_means (cuts c.cut_laws.ensures.first c.cut_laws.e
 
 pub returns-clause-starts : goal.returns-clause-starts
 returns-clause-starts c = starts_means (cuts c.cut_laws.ensures.first c.cut_laws.ensures.no_first)
+
+pub returns-clause-alike : goal.returns-clause-alike
+returns-clause-alike c = version_begins

@@ -1,6 +1,6 @@
 use Rattle.std.proofs.Common.{◌≡◌, List, ℕ, ap, sym, ◌∙◌}
 use Rattle.conda_version.specs.Grammar.{fault, plain_meaning}
-use Rattle.conda_version.specs.Order.{numbered}
+use Rattle.conda_version.specs.Order.{epoch_and_main}
 use Rattle.conda_version.specs.Text.{plain, trimmed}
 use Rattle.conda_version.proofs.TextLemmas.{trimmed_twice}
 use Rattle.conda_version.proofs.version.Version.read.Goals as goal
@@ -13,6 +13,6 @@ invariant_of-result c =
     let lower : c.as_slice.result.now ≡ plain text = c.as_slice.ensures.value ∙ c.in_ok-plain.ensures ∙ ap plain (c.as_bytes.ensures.value ∙ same) in (
       ap fault (sym lower) ∙ c.in_ok-parts.ensures.good,
       bare,
-      c.in_ok-parts.ensures.main ∙ ap (λ t. numbered (plain_meaning t)) lower,
+      c.in_ok-parts.ensures.main ∙ ap (λ t. epoch_and_main (plain_meaning t)) lower,
       c.in_ok-parts.ensures.local ∙ ap (λ t. (plain_meaning t).local) lower,
     )
