@@ -2,6 +2,7 @@
 //!
 //! In an argument `\n`, `\t`, `\r`, `\s`, `\p` and `\\` stand for a newline, a tab, a carriage return, a space, `|` and
 //! `\`; `\xHH` for the character with this number in two hexadecimal digits; `\(TEXT*N)` for TEXT, N times.
+//! A line with another escape is no row.
 #![tactic(auto)]
 
 mod escape;

@@ -11,17 +11,20 @@ pub struct Row {
 
 impl Row {
     /// Reads a row from its line: the call ends at the first space, the arguments are parted by `|`.
-    pub fn read(alloc: Global, line: &str) -> Result<Row, AllocError> {
+    /// None where an argument has an unknown escape.
+    pub fn read(alloc: Global, line: &str) -> Result<Option<Row>, AllocError> {
         let (call, rest) = match line.split_once(' ') {
             Some(cut) => cut,
             None => (line, ""),
         };
         let mut arguments = Vec::new(alloc);
         for argument in rest.split('|') {
-            let text = unescaped(alloc, argument)?;
-            arguments.push(Text::from_string(text))?;
+            match unescaped(alloc, argument)? {
+                Some(text) => arguments.push(Text::from_string(text))?,
+                None => return Ok(None),
+            }
         }
         let call = Text::from_str(alloc, call)?;
-        Ok(Row { call, arguments })
+        Ok(Some(Row { call, arguments }))
     }
 }

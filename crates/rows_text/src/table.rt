@@ -14,6 +14,18 @@ pub trait Table {
     ) -> Result<Option<String>, AllocError>;
 }
 
+/// The answer of a row, or None where there is no such row.
+fn answer_of<T: Table>(
+    alloc: Global,
+    table: &T,
+    line: &str,
+) -> Result<Option<String>, AllocError> {
+    match Row::read(alloc, line)? {
+        Some(row) => table.answer(alloc, row.call.as_str(), row.arguments.as_slice()),
+        None => Ok(None),
+    }
+}
+
 /// Prints each line of the input, and behind a row its answer. Empty lines and those that begin with `#` are no rows.
 pub fn print_rows<T: Table, R: AllocGlobal + Input + Print>(rt: &R, table: &T) -> io::Result<()> {
     let alloc = rt.alloc();
@@ -23,8 +35,7 @@ pub fn print_rows<T: Table, R: AllocGlobal + Input + Print>(rt: &R, table: &T) -
             println!(rt; "{line}")?;
             continue;
         }
-        let row = Row::read(alloc, line.as_str())?;
-        match table.answer(alloc, row.call.as_str(), row.arguments.as_slice())? {
+        match answer_of(alloc, table, line.as_str())? {
             Some(answer) => println!(rt; "{line}: {answer}")?,
             None => println!(rt; "{line}: no such row")?,
         }
