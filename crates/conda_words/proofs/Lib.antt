@@ -9,3 +9,5 @@ pub mod ReadingLemmas
 pub mod CommandLemmas
 pub mod LawLemmas
 pub mod ScriptLemmas
+pub mod EmptyLemmas
+pub mod LineLemmas

@@ -41,7 +41,7 @@ prefixes_of lines = flat_map (λ line. line.command.prefixes) lines
 -- 10,000 physical lines at most are these lines, with 64 different prefixes at most
 pub record AreTaken (texts : List (List ℕ)) (lines : List Line) : Type 0 where
   pub short : length texts ≤ 10000
-  pub lines : AreLines 1 texts lines
+  pub are : AreLines 1 texts lines
   pub few : length (different (prefixes_of lines)) ≤ 64
 
 -- A script means these lines: its physical lines are them, and no prefix lies inside another.
