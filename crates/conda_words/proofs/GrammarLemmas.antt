@@ -4,7 +4,7 @@ use Rattle.std.specs.Prelude.{None, Some, if◌then◌else◌, not, ◌==◌, co
 use Rattle.std.specs.Str.{bytes_eq}
 use Rattle.conda_base.specs.Signs.{dash, equals}
 use Rattle.conda_base.specs.Texts.{begins_with, cut_first}
-use Rattle.conda_words.specs.Cut.{dashed_item, ends_options, is_plain, item, items, long_option, takes_next}
+use Rattle.conda_words.specs.Cut.{dashed_item, ends_options, is_plain_word, item, items, long_option, takes_next}
 use Rattle.conda_words.specs.Grammar.{Cuts, Spells, done, ends, flag, joined, plain_word, valued}
 use Rattle.conda_words.specs.Table.{Subcommand, has, has_value, is_long, option_of, options, own_option, spelling, takes}
 use Rattle.conda_words.specs.declared.cut.Item.{Item}
@@ -109,7 +109,7 @@ undashed_end (b ∷ rest) h = other (b == dash) refl
 
 -- ---- what the grammar cuts is cut so
 
-plain_facts : (sub : Subcommand) (plain : Bool) (at : ℕ) (word : List ℕ) → is_plain plain word ≡ true → (ends_options plain word ≡ false) × (takes_next sub plain word ≡ false)
+plain_facts : (sub : Subcommand) (plain : Bool) (at : ℕ) (word : List ℕ) → is_plain_word plain word ≡ true → (ends_options plain word ≡ false) × (takes_next sub plain word ≡ false)
 plain_facts sub true at word p = (refl, refl)
 plain_facts sub false at word p = (undashed_end word p, ap has_value (own_strange sub word (undashed word p)))
 

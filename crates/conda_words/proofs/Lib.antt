@@ -1,7 +1,13 @@
+pub mod FirstLemmas
+pub mod StepLemmas
+pub mod PrefixLemmas
 pub mod ItemLemmas
 pub mod TextLemmas
 pub mod GrammarLemmas
 pub mod CutLemmas
 pub mod ReadingLemmas
+pub mod CommandLemmas
 pub mod LawLemmas
 pub mod ScriptLemmas
+pub mod EmptyLemmas
+pub mod LineLemmas

@@ -1,20 +1,17 @@
--- The first bad line of a script.
+-- The physical lines of a script, one behind the other, and the first bad one.
 use Rattle.std.proofs.Common.{◌≡◌, ℕ, ◌+◌, ◌⊎◌, inl, inr, Bool, true, false, List, [], ◌∷◌, ◌++◌, length, refl, sym, ap, ◌∙◌, arith}
 use Rattle.std.specs.Prelude.{Option, None, Some, Ok, Err, if◌then◌else◌, nat_lt, position}
-use Rattle.conda_base.specs.Reads.{Read, ◌>>=◌, unless}
+use Rattle.conda_base.specs.Reads.{Read, ◌>>=◌}
 use Rattle.conda_base.specs.Signs.{space}
 use Rattle.conda_base.specs.Texts.{is_empty}
-use Rattle.conda_words.specs.Grammar.{IsFirstBadLine}
-use Rattle.conda_words.specs.Reading.{Fault, command_read, nested_fault}
-use Rattle.conda_words.specs.Scripts.{is_passed, judged, lines_of, no_lines, parted, script_read, with_fields, with_line, with_lines, with_reading, with_session}
+use Rattle.conda_words.specs.Reading.{Fault, command_read}
+use Rattle.conda_words.specs.Scripts.{is_passed, judged, parted, with_fields, with_line, with_lines, with_reading, with_session}
 use Rattle.conda_words.specs.Values.{number_in}
-use Rattle.conda_words.specs.declared.command.Line.{Line}
 use Rattle.conda_words.specs.declared.error.Why.{Why}
 use Rattle.conda_words.specs.declared.error.Why.TheVariants as whys
 use Rattle.conda_words.specs.declared.reading.Reading.{Reading}
 use Rattle.conda_words.specs.declared.script.Script.{Script}
-use Rattle.conda_words.proofs.LawLemmas.{nested_some}
-use Rattle.conda_words.proofs.ReadingLemmas.{SecondErr, bind_err, bind_ok, unless_err}
+use Rattle.conda_words.proofs.ReadingLemmas.{SecondErr, bind_err, bind_ok}
 
 -- ---- a fault of a line stands at its number
 
@@ -58,17 +55,17 @@ line_place n script line m why e = either_place (nat_lt 10000 n) (is_passed line
 
 -- ---- lines
 
-record BadFrom (k : ℕ) (script : Script) (lines : List (List ℕ)) (n : ℕ) (why : Why) : Type 0 where
-  front : List (List ℕ)
-  line : List ℕ
-  behind : List (List ℕ)
-  before : Script
-  split : lines ≡ front ++ line ∷ behind
-  right : with_lines k script front ≡ Ok before
-  place : n ≡ k + length front
-  wrong : with_line n before line ≡ Err (n, why)
+pub record BadFrom (k : ℕ) (script : Script) (lines : List (List ℕ)) (n : ℕ) (why : Why) : Type 0 where
+  pub front : List (List ℕ)
+  pub line : List ℕ
+  pub behind : List (List ℕ)
+  pub before : Script
+  pub split : lines ≡ front ++ line ∷ behind
+  pub right : with_lines k script front ≡ Ok before
+  pub place : n ≡ k + length front
+  pub wrong : with_line n before line ≡ Err (n, why)
 
-lines_bad : (k : ℕ) (script : Script) (lines : List (List ℕ)) (n : ℕ) (why : Why) → with_lines k script lines ≡ Err (n, why) → BadFrom k script lines n why
+pub lines_bad : (k : ℕ) (script : Script) (lines : List (List ℕ)) (n : ℕ) (why : Why) → with_lines k script lines ≡ Err (n, why) → BadFrom k script lines n why
 lines_bad k script [] n why h = cc
 lines_bad k script (line ∷ lines) n why h = by (bind_err (with_line k script line) (λ next. with_lines (k + 1) next lines) (n, why) h) (λ next. lines_bad (k + 1) next lines n why)
   where
@@ -99,7 +96,7 @@ lines_bad k script (line ∷ lines) n why h = by (bind_err (with_line k script l
 ok_same : (x y : Script) → (let m : Read Script Fault = Ok x in m) ≡ Ok y → x ≡ y
 ok_same x y e = cc
 
-bad_lines : (k : ℕ) (script : Script) (front : List (List ℕ)) (line : List ℕ) (behind : List (List ℕ)) (before : Script) (n : ℕ) (f : Fault) → with_lines k script front ≡ Ok before → n ≡ k + length front → with_line n before line ≡ Err f → with_lines k script (front ++ line ∷ behind) ≡ Err f
+pub bad_lines : (k : ℕ) (script : Script) (front : List (List ℕ)) (line : List ℕ) (behind : List (List ℕ)) (before : Script) (n : ℕ) (f : Fault) → with_lines k script front ≡ Ok before → n ≡ k + length front → with_line n before line ≡ Err f → with_lines k script (front ++ line ∷ behind) ≡ Err f
 bad_lines k script [] line behind before n f right place wrong =
     let here : n ≡ k = grind (arith, place) in
     ap (λ m. m >>= (λ next. with_lines (k + 1) next behind))
@@ -109,30 +106,3 @@ bad_lines k script (l ∷ front) line behind before n f right place wrong =
     let there : n ≡ k + 1 + length front = grind (arith, place) in
     ap (λ m. m >>= (λ next. with_lines (k + 1) next (front ++ line ∷ behind))) parts.first
     ∙ bad_lines (k + 1) parts.value front line behind before n f parts.second there wrong
-
--- ---- a script
-
-pub bad_script : (text : List ℕ) (n : ℕ) (why : Why) → script_read text ≡ Err (n, why) → IsFirstBadLine text n why
-unfolding script_read
-bad_script text n why h = by (bind_err (with_lines 1 no_lines (lines_of text)) (λ s. unless (nested_fault s.nested) s.lines) (n, why) h)
-  where
-    by : (with_lines 1 no_lines (lines_of text) ≡ Err (n, why)) ⊎ SecondErr (with_lines 1 no_lines (lines_of text)) (λ s. unless (nested_fault s.nested) s.lines) (n, why) → IsFirstBadLine text n why
-    by (inl e) =
-        let bad = lines_bad 1 no_lines (lines_of text) n why e in
-        inl (record { front = bad.front; line = bad.line; behind = bad.behind; before = bad.before; split = bad.split; right = bad.right; place = bad.place; wrong = bad.wrong })
-    by (inr s) =
-        let found = nested_some s.value.nested n why (unless_err (nested_fault s.value.nested) s.value.lines (n, why) s.second) in
-        inr (record { all = s.value; right = s.first; place = found.0; cause = found.1 })
-
-pub script_bad : (text : List ℕ) (n : ℕ) (why : Why) → IsFirstBadLine text n why → script_read text ≡ Err (n, why)
-unfolding script_read
-script_bad text n why (inl b) =
-    ap (λ m. m >>= (λ s. unless (nested_fault s.nested) s.lines))
-    (ap (with_lines 1 no_lines) b.split ∙ bad_lines 1 no_lines b.front b.line b.behind b.before n (n, why) b.right b.place b.wrong)
-script_bad text n why (inr b) =
-    ap (λ m. m >>= (λ s. unless (nested_fault s.nested) s.lines)) b.right
-    ∙ ap (λ o. unless (nested_fault o) b.all.lines) b.place
-    ∙ cause_pair (sym b.cause)
-  where
-    cause_pair : whys.Nested ≡ why → (let m : Read (List Line) Fault = Err (n, whys.Nested) in m) ≡ Err (n, why)
-    cause_pair q = cc

@@ -31,8 +31,8 @@ ends_options plain word = not plain && bytes_eq word (codes "--")
 abbrev pub takes_next : Subcommand → Bool → List ℕ → Bool
 takes_next sub plain word = not plain && has_value (own_option sub word)
 
-abbrev pub is_plain : Bool → List ℕ → Bool
-is_plain plain word = plain || not (begins_with dash word)
+abbrev pub is_plain_word : Bool → List ℕ → Bool
+is_plain_word plain word = plain || not (begins_with dash word)
 
 -- a word that begins with `-`, by itself: a flag, or `--OPTION=VALUE`, cut at the first `=`
 abbrev pub long_option : Kind → Kind
@@ -45,7 +45,7 @@ dashed_item sub at word (Some halves) = item (long_option (own_option sub halves
 -- the item that a word is by itself
 abbrev pub own_item : Subcommand → Bool → ℕ → List ℕ → Item
 own_item sub plain at word =
-    if is_plain plain word then item kinds.Word at at (Some word) else dashed_item sub at word (cut_first equals word)
+    if is_plain_word plain word then item kinds.Word at at (Some word) else dashed_item sub at word (cut_first equals word)
 
 -- an option with the next word as its value, if there is one
 abbrev pub valued_item : Subcommand → ℕ → List ℕ → Option (List ℕ) → Item

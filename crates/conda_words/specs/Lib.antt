@@ -1,6 +1,9 @@
 pub mod Table
 pub mod Values
 pub mod Cut
+pub mod Says
+pub mod Causes
 pub mod Reading
 pub mod Scripts
 pub mod Grammar
+pub mod Lines

@@ -2,10 +2,9 @@
 use Rattle.std.specs.Prelude.{ℕ, ◌+◌, ◌==◌, Bool, true, false, ◌&&◌, ◌||◌, not, nat_lt, if◌then◌else◌, List, [], ◌∷◌, ◌++◌, length, codes, Option, None, Some, is_none, is_some, unwrap_or, Ok, Err}
 use Rattle.std.specs.List.{list_any}
 use Rattle.std.specs.Option.{option_or}
-use Rattle.std.specs.Str.{bytes_eq}
 use Rattle.conda_base.specs.Reads.{Read, ◌>>=◌, unless}
-use Rattle.conda_path.specs.Paths.{is_inside, prefix_fault}
 use Rattle.conda_words.specs.Cut.{count, given, items}
+use Rattle.conda_words.specs.Says.{is_among, is_nested, is_prefix}
 use Rattle.conda_words.specs.Table.{Subcommand, has_one_prefix, least, repeats, subcommand_of}
 use Rattle.conda_words.specs.Values.{is_channel, is_virtual, number_in, virtual_of}
 use Rattle.conda_words.specs.declared.command.Command.{Command}
@@ -33,24 +32,13 @@ words_fault_of Memory = None
 
 -- ---- a value
 
-abbrev pub is_prefix : List ℕ → Bool
-is_prefix text = is_none (prefix_fault text)
-
--- the text is one of these
-abbrev pub is_among : List ℕ → List (List ℕ) → Bool
-is_among text texts = list_any (λ t. bytes_eq text t) texts
-
--- of two different prefixes, one lies inside the other
-abbrev pub is_nested : List ℕ → List ℕ → Bool
-is_nested a b = is_inside a b || is_inside b a
-
 -- the number, within bounds
 abbrev pub numbered : ℕ → Option ℕ → Read ℕ Fault
 numbered at None = Err (at, whys.Number)
 numbered at (Some n) = Ok n
 
-abbrev pub number_at : ℕ → ℕ → ℕ → List ℕ → Read ℕ Fault
-number_at at low high value = numbered at (number_in low high value)
+abbrev pub number_value : ℕ → ℕ → ℕ → List ℕ → Read ℕ Fault
+number_value at low high value = numbered at (number_in low high value)
 
 -- ---- a reading with one more value, which stands at a place
 
@@ -69,7 +57,7 @@ with_word Nothing before r at word = Err (at, whys.Extra)
 with_word One before r at word = if before == 0 then Ok (with_plain r word) else Err (at, whys.Extra)
 with_word Many before r at word = if nat_lt before 256 then Ok (with_plain r word) else Err (at, whys.Limit)
 with_word Number before r at word =
-    if before == 0 then number_at at 1 200 word >>= (λ n. Ok (with_verb r (verbs.Exercise n))) else Err (at, whys.Extra)
+    if before == 0 then number_value at 1 200 word >>= (λ n. Ok (with_verb r (verbs.Exercise n))) else Err (at, whys.Extra)
 
 -- the prefix is known now, and if it is nested with a known one, then here, or on this line of a script
 abbrev pub met : Reading → ℕ → List ℕ → Reading
@@ -110,9 +98,9 @@ with_value sub before r kinds.Prefix at value = with_prefix r at value
 with_value sub before r kinds.Channel at value = with_channel r at value
 with_value sub before r kinds.ChannelDir at value = Ok (record r { command = record r.command { channel_dir = value } })
 with_value sub before r kinds.PkgsDir at value = Ok (record r { command = record r.command { pkgs_dir = value } })
-with_value sub before r kinds.Jobs at value = number_at at 1 16 value >>= (λ n. Ok (with_jobs r n))
+with_value sub before r kinds.Jobs at value = number_value at 1 16 value >>= (λ n. Ok (with_jobs r n))
 with_value sub before r kinds.Virtual at value = with_virtual r at value
-with_value sub before r kinds.Revision at value = number_at at 0 4294967295 value >>= (λ n. Ok (with_verb r (verbs.Revert n)))
+with_value sub before r kinds.Revision at value = number_value at 0 4294967295 value >>= (λ n. Ok (with_verb r (verbs.Revert n)))
 with_value sub before r kinds.Revisions at value = Ok (with_verb r verbs.Revisions)
 with_value sub before r kinds.Copy at value = Ok (record r { command = record r.command { copy = true } })
 with_value sub before r kinds.Strange at value = Err (at, whys.Unknown)

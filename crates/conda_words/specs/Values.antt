@@ -14,13 +14,13 @@ abbrev pub number_in : ℕ → ℕ → List ℕ → Option ℕ
 number_in low high text = option_and_then (λ n. if nat_le low n then Some n else None) (number_below (high + 1) text)
 
 -- a letter, a digit, `_`, `-` or `.`
-abbrev pub is_name_byte : ℕ → Bool
-is_name_byte b = is_ascii_alphanumeric b || b == underscore || b == dash || b == dot
+abbrev pub is_label_byte : ℕ → Bool
+is_label_byte b = is_ascii_alphanumeric b || b == underscore || b == dash || b == dot
 
 -- the name of a channel: 1 to 64 letters, digits, `_`, `-` and `.`, of which `.` isn't the first
 abbrev pub is_channel : List ℕ → Bool
 is_channel name =
-    nat_lt 0 (length name) && nat_le (length name) 64 && not (begins_with dot name) && list_all is_name_byte name
+    nat_lt 0 (length name) && nat_le (length name) 64 && not (begins_with dot name) && list_all is_label_byte name
 
 -- `NAME=VERSION`, split at the first `=`; no spaces at the version's ends
 abbrev pub virtual_name : List ℕ → List ℕ
@@ -31,7 +31,7 @@ virtual_version value = trimmed (after_first (is_byte equals) value)
 
 -- the name of a virtual package
 abbrev pub is_virtual_name : List ℕ → Bool
-is_virtual_name name = starts_with nat_eq name (codes "__") && list_all is_name_byte name
+is_virtual_name name = starts_with nat_eq name (codes "__") && list_all is_label_byte name
 
 -- a version without `-`
 abbrev pub is_virtual_version : List ℕ → Bool

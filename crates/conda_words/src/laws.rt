@@ -1,9 +1,11 @@
 ghost use Rattle.std.specs.Prelude.{◌≡◌, ◌↔◌, ℕ, [], ◌∷◌, List, Err, Ok, true};
-ghost use Rattle.conda_words.specs.Grammar.{HasFault, IsFirstBadLine, Means};
+ghost use Rattle.conda_words.specs.Grammar.{HasFault, Means};
+ghost use Rattle.conda_words.specs.Lines.{IsFirstBadLine, MeansLines};
 ghost use Rattle.conda_words.specs.Reading.{words_read};
 ghost use Rattle.conda_words.specs.Scripts.{script_read};
 ghost use Rattle.conda_words.specs.Table.{has_one_prefix};
 ghost use Rattle.conda_words.specs.declared.command.Command.{Command};
+ghost use Rattle.conda_words.specs.declared.command.Line.{Line};
 ghost use Rattle.conda_words.specs.declared.error.Why.{Why};
 
 use conda_base::cut_laws;
@@ -21,8 +23,13 @@ pub fn words_laws()
     cut_laws();
 }
 
-/// What is refused of a script: its first line that is bad behind those before it.
-pub fn script_law()
-    ensures { (text : List ℕ) (n : ℕ) (why : Why) →
+/// What is read from a script: the lines that its text means, where it is in the grammar of scripts; else its first line
+/// that is bad behind those before it, and why.
+pub fn script_laws()
+    ensures meaning { (text : List ℕ) (lines : List Line) →
+        (script_read text ≡ Ok lines) ↔ MeansLines text lines }
+    ensures fault { (text : List ℕ) (n : ℕ) (why : Why) →
         (script_read text ≡ Err (n, why)) ↔ IsFirstBadLine text n why }
-{}
+{
+    cut_laws();
+}

@@ -14,6 +14,6 @@ mod words;
 
 pub use command::{Command, Line, Verb, Virtual};
 pub use error::{Why, WordsErr};
-pub use laws::{script_law, words_laws};
+pub use laws::{script_laws, words_laws};
 pub use script::read_script;
 pub use words::read_words;

@@ -3,6 +3,7 @@ ghost use Rattle.std.specs.List.{list_any};
 ghost use Rattle.conda_base.specs.Reads.{Gives};
 ghost use Rattle.conda_words.specs.Reading as reads;
 ghost use Rattle.conda_words.specs.Reading.{words_fault_of};
+ghost use Rattle.conda_words.specs.Says as says;
 ghost use Rattle.conda_words.specs.Table.{seen};
 
 use crate::command::{Command, Verb};
@@ -36,8 +37,8 @@ fn bad(at: usize, why: Why) -> WordsErr
     WordsErr::Usage { at: at as u64, why }
 }
 
-fn number_at(at: usize, low: u32, high: u32, value: &str) -> Result<u32, WordsErr>
-    ensures { Gives words_fault_of result (reads.number_at at low high value.now) }
+fn number_value(at: usize, low: u32, high: u32, value: &str) -> Result<u32, WordsErr>
+    ensures { Gives words_fault_of result (reads.number_value at low high value.now) }
 {
     match number_in(low, high, value) {
         Some(n) => Ok(n),
@@ -68,7 +69,7 @@ fn with_word(
         Words::One if before == 0 => Ok(with_plain(alloc, reading, word)?),
         Words::Many if before < 256 => Ok(with_plain(alloc, reading, word)?),
         Words::Many => Err(bad(at, Why::Limit)),
-        Words::Number if before == 0 => match number_at(at, 1, 200, word) {
+        Words::Number if before == 0 => match number_value(at, 1, 200, word) {
             Ok(n) => {
                 let mut reading = reading;
                 reading.command.verb = Verb::Exercise(n);
@@ -81,7 +82,7 @@ fn with_word(
 }
 
 fn is_prefix_among(value: &str, prefixes: &[Prefix]) -> bool
-    ensures { result ≡ reads.is_among value.now prefixes.now }
+    ensures { result ≡ says.is_among value.now prefixes.now }
 {
     for prefix in prefixes {
         if value == prefix.as_str() {
@@ -92,7 +93,7 @@ fn is_prefix_among(value: &str, prefixes: &[Prefix]) -> bool
 }
 
 fn is_among(value: &str, texts: &[Text]) -> bool
-    ensures { result ≡ reads.is_among value.now texts.now }
+    ensures { result ≡ says.is_among value.now texts.now }
 {
     for text in texts {
         if value == text.as_str() {
@@ -104,7 +105,7 @@ fn is_among(value: &str, texts: &[Text]) -> bool
 
 /// Whether a prefix lies inside or round one of these.
 fn is_nested_with_any(prefix: &Prefix, known: &[Prefix]) -> bool
-    ensures { result ≡ list_any (reads.is_nested prefix.now) known.now }
+    ensures { result ≡ list_any (says.is_nested prefix.now) known.now }
 {
     for other in known {
         if prefix.inside(other) || other.inside(prefix) {
@@ -229,7 +230,7 @@ fn with_value(
             reading.command.pkgs_dir = Text::from_str(alloc, value)?;
             Ok(reading)
         }
-        Kind::Jobs => match number_at(at, 1, 16, value) {
+        Kind::Jobs => match number_value(at, 1, 16, value) {
             Ok(n) => {
                 reading.command.jobs = n;
                 Ok(reading)
@@ -237,7 +238,7 @@ fn with_value(
             Err(e) => Err(e),
         },
         Kind::Virtual => with_virtual(alloc, reading, at, value),
-        Kind::Revision => match number_at(at, 0, REVISION_MOST, value) {
+        Kind::Revision => match number_value(at, 0, REVISION_MOST, value) {
             Ok(n) => {
                 reading.command.verb = Verb::Revert(n);
                 Ok(reading)

@@ -21,16 +21,16 @@ pub fn number_in(low: u32, high: u32, text: &str) -> Option<u32>
     }
 }
 
-fn is_name_byte(b: u8) -> bool
-    ensures { result ≡ values.is_name_byte b }
+fn is_label_byte(b: u8) -> bool
+    ensures { result ≡ values.is_label_byte b }
 {
     b.is_ascii_alphanumeric() || b == b'_' || b == b'-' || b == b'.'
 }
 
 fn has_name_bytes(name: &[u8]) -> bool
-    ensures { result ≡ list_all values.is_name_byte name.now }
+    ensures { result ≡ list_all values.is_label_byte name.now }
 {
-    name.iter().all(|b| is_name_byte(*b))
+    name.iter().all(|b| is_label_byte(*b))
 }
 
 /// Whether the text is the name of a channel.

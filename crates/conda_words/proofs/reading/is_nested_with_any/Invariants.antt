@@ -1,6 +1,6 @@
 use Rattle.std.proofs.Common.{◌≡◌, drop}
 use Rattle.std.specs.List.{list_any}
-use Rattle.conda_words.specs.Reading.{is_nested}
+use Rattle.conda_words.specs.Says.{is_nested}
 use Rattle.conda_words.proofs.reading.is_nested_with_any.Given as goal
 
 -- the answer for those that are left is the answer for all

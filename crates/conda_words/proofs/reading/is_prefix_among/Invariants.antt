@@ -1,5 +1,5 @@
 use Rattle.std.proofs.Common.{◌≡◌, drop}
-use Rattle.conda_words.specs.Reading.{is_among}
+use Rattle.conda_words.specs.Says.{is_among}
 use Rattle.conda_words.proofs.reading.is_prefix_among.Given as goal
 
 -- the answer for those that are left is the answer for all
