@@ -1,0 +1,83 @@
+-- What a record is, in whatever order its fields are looked at.
+use Rattle.std.specs.Prelude.{◌≡◌, ℕ, true, ◌⊎◌, List, [], ◌∷◌, codes, None, Some, Ok}
+use Rattle.std.specs.List.{AllByRecursion, list_all}
+use Rattle.serde_json.specs.Data.{Data, Items, no_items, item}
+use Rattle.serde_json.specs.Find.{as_str}
+use Rattle.conda_base.specs.Signs.{star}
+use Rattle.conda_base.specs.Texts.{IsFreeOf}
+use Rattle.conda_path.specs.Dists.{IsDist, IsSplit}
+use Rattle.conda_path.specs.Files.{IsFileOf}
+use Rattle.conda_version.specs.Text.{trimmed}
+use Rattle.conda_version.specs.Versions.{IsVersionText, Meaning}
+use Rattle.conda_spec.specs.Grammar.{IsSpecText}
+use Rattle.conda_spec.specs.Parts.{IsSpec, Parts}
+use Rattle.conda_json.specs.Fields.{optional}
+use Rattle.conda_json.specs.Json.{list_at, number_at, text_at}
+use Rattle.conda_json.specs.declared.optional.Null.{Null}
+use Rattle.conda_record.specs.Records.{is_package_byte, noarch_of, timestamp_of}
+use Rattle.conda_record.specs.declared.package.PkgRecord.{PkgRecord}
+
+-- ---- a record alone
+
+-- a specification without a star in its name
+pub record IsPlainSpec (parts : Parts) : Type 0 where
+  pub spec : IsSpec parts
+  pub no_glob : IsFreeOf star parts.name
+
+-- the name is letters, digits, `_`, `-` and `.`; the version is one; the dist is a dist, and that of name, version and build; no
+-- specification has a star in its name
+pub record IsWellFormed (package : PkgRecord) : Type 0 where
+  pub name : list_all is_package_byte package.name ≡ true
+  pub version : (meaning : Meaning) × IsVersionText package.version meaning
+  pub bare : trimmed package.version ≡ package.version
+  pub dist : IsDist package.dist
+  pub parts : IsSplit package.dist package.name package.version package.build
+  pub depends : AllByRecursion IsPlainSpec package.depends
+  pub constrains : AllByRecursion IsPlainSpec package.constrains
+
+-- ---- a record and what is said of it
+
+-- the file's name is the dist, with the ending of a package file or without it
+abbrev pub NamesDist : List ℕ → List ℕ → Type 0
+NamesDist file dist = (file ≡ dist) ⊎ IsFileOf file dist
+
+-- the element is a text, and writes this specification, whose name has no star
+abbrev pub WritesSpec : Data → Parts → Type 0
+WritesSpec value parts = (text : List ℕ) × (as_str value ≡ Some text) × IsSpecText (trimmed text) parts × IsFreeOf star parts.name
+
+-- the elements write these specifications, each in its place
+abbrev pub WriteSpecs : Items → List Parts → Type 0
+WriteSpecs no_items [] = Unit {0}
+WriteSpecs no_items (parts ∷ rest) = ⊥
+WriteSpecs (item value more) [] = ⊥
+WriteSpecs (item value more) (parts ∷ rest) = WritesSpec value parts × WriteSpecs more rest
+
+-- the list, if it is there, writes these specifications
+abbrev pub MayWriteSpecs : Data → List ℕ → List Parts → Type 0
+MayWriteSpecs value name specs =
+    ((optional list_at Null.Bad name value ≡ Ok None) × (specs ≡ []))
+    ⊎ ((elements : Items) × (optional list_at Null.Bad name value ≡ Ok (Some elements)) × WriteSpecs elements specs)
+
+-- The value is this record of a file in the subdir of a channel.
+pub record IsRecord (value : Data) (file channel subdir : List ℕ) (package : PkgRecord) : Type 0 where
+  pub written : List ℕ
+  pub meaning : Meaning
+  pub elements : Items
+  pub file : NamesDist file package.dist
+  pub dist : IsDist package.dist
+  pub parts : IsSplit package.dist package.name package.version package.build
+  pub name : text_at value (codes "name") ≡ Some package.name
+  pub name_bytes : list_all is_package_byte package.name ≡ true
+  pub version : text_at value (codes "version") ≡ Some written
+  pub version_text : package.version ≡ trimmed written
+  pub is_version : IsVersionText package.version meaning
+  pub build : text_at value (codes "build") ≡ Some package.build
+  pub build_number : number_at value (codes "build_number") ≡ Some package.build_number
+  pub depends : list_at value (codes "depends") ≡ Some elements
+  pub needs : WriteSpecs elements package.depends
+  pub constrains : MayWriteSpecs value (codes "constrains") package.constrains
+  pub subdir : (optional text_at Null.Bad (codes "subdir") value ≡ Ok None) ⊎ (optional text_at Null.Bad (codes "subdir") value ≡ Ok (Some subdir))
+  pub in_subdir : package.subdir ≡ subdir
+  pub in_channel : package.channel ≡ channel
+  pub noarch : package.noarch ≡ noarch_of value
+  pub timestamp : package.timestamp ≡ timestamp_of value
