@@ -1,12 +1,17 @@
 -- What the fields of an object have to be. A reader of an object is said as its fields in order, by `>>=`; the fault is the
 -- name of the first field that is absent or of another kind. Of a value that is no object each field is absent.
-use Rattle.std.specs.Prelude.{ℕ, ◌+◌, List, [], ◌∷◌, ◌++◌, Bool, false, not, is_some, Option, Some, None, Ok, if◌then◌else◌}
+use Rattle.std.specs.Prelude.{ℕ, ◌+◌, List, [], ◌∷◌, ◌++◌, Bool, false, not, is_some, Option, Some, None, Ok, Err, if◌then◌else◌}
 use Rattle.std.specs.Option.{ok_or, option_map_or}
 use Rattle.serde_json.specs.Data.{Data, Items, no_items, item}
 use Rattle.serde_json.specs.Find.{get, as_null, as_str}
 use Rattle.conda_base.specs.Reads.{Read, ◌>>=◌}
 use Rattle.conda_json.specs.Json.{list_at}
 use Rattle.conda_json.specs.declared.optional.Null.{Null}
+
+-- the same value, or this fault in place of another
+abbrev pub or_fault : {A Other Fault : Type 0} → Read A Other → Fault → Read A Fault
+or_fault (Ok x) fault = Ok x
+or_fault (Err other) fault = Err fault
 
 -- a field that has to be there: what the look-up gives, or else its name
 abbrev pub required : {A : Type 0} → (Data → List ℕ → Option A) → List ℕ → Data → Read A (List ℕ)
