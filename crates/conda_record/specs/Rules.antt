@@ -10,7 +10,9 @@ use Rattle.conda_path.specs.Files.{IsFileOf}
 use Rattle.conda_version.specs.Text.{trimmed}
 use Rattle.conda_version.specs.Versions.{IsVersionText, Meaning}
 use Rattle.conda_spec.specs.Grammar.{IsSpecText}
-use Rattle.conda_spec.specs.Parts.{IsSpec, Parts}
+use Rattle.conda_spec.specs.Parts.{Parts}
+use Rattle.conda_spec.specs.Reading.{spec_read}
+use Rattle.conda_spec.specs.Text.{spec_text}
 use Rattle.conda_json.specs.Fields.{optional}
 use Rattle.conda_json.specs.Json.{list_at, number_at, text_at}
 use Rattle.conda_json.specs.declared.optional.Null.{Null}
@@ -19,21 +21,25 @@ use Rattle.conda_record.specs.declared.package.PkgRecord.{PkgRecord}
 
 -- ---- a record alone
 
--- a specification without a star in its name
-pub record IsPlainSpec (parts : Parts) : Type 0 where
-  pub spec : IsSpec parts
-  pub no_glob : IsFreeOf star parts.name
+-- the name of the specification has no star
+abbrev pub HasNoGlob : Parts → Type 0
+HasNoGlob parts = IsFreeOf star parts.name
 
--- the name is letters, digits, `_`, `-` and `.`; the version is one; the dist is a dist, and that of name, version and build; no
--- specification has a star in its name
+-- The name is letters, digits, `_`, `-` and `.`; the version is one, without spaces at its ends; the dist is a dist, and that of name,
+-- version and build; and no specification has a star in its name.
 pub record IsWellFormed (package : PkgRecord) : Type 0 where
+  pub meaning : Meaning
   pub name : list_all is_package_byte package.name ≡ true
-  pub version : (meaning : Meaning) × IsVersionText package.version meaning
+  pub version : IsVersionText package.version meaning
   pub bare : trimmed package.version ≡ package.version
   pub dist : IsDist package.dist
   pub parts : IsSplit package.dist package.name package.version package.build
-  pub depends : AllByRecursion IsPlainSpec package.depends
-  pub constrains : AllByRecursion IsPlainSpec package.constrains
+  pub depends : AllByRecursion HasNoGlob package.depends
+  pub constrains : AllByRecursion HasNoGlob package.constrains
+
+-- the specification is read from its normal form
+abbrev pub ReadsBack : Parts → Type 0
+ReadsBack parts = spec_read (trimmed (spec_text parts)) ≡ Ok parts
 
 -- ---- a record and what is said of it
 
@@ -43,7 +49,7 @@ NamesDist file dist = (file ≡ dist) ⊎ IsFileOf file dist
 
 -- the element is a text, and writes this specification, whose name has no star
 abbrev pub WritesSpec : Data → Parts → Type 0
-WritesSpec value parts = (text : List ℕ) × (as_str value ≡ Some text) × IsSpecText (trimmed text) parts × IsFreeOf star parts.name
+WritesSpec value parts = (text : List ℕ) × (as_str value ≡ Some text) × IsSpecText (trimmed text) parts × HasNoGlob parts
 
 -- the elements write these specifications, each in its place
 abbrev pub WriteSpecs : Items → List Parts → Type 0
