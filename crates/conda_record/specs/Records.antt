@@ -94,10 +94,10 @@ subdir_read subdir value = or_fault (optional text_at Null.Bad (codes "subdir") 
 abbrev pub noarch_said : Data → Noarch
 noarch_said null = Noarch.No
 noarch_said (boolean truth) = if truth then Noarch.Generic else Noarch.No
-noarch_said (number n) = Noarch.Generic
+noarch_said (number _) = Noarch.Generic
 noarch_said (string text) = if is_text text (codes "python") then Noarch.Python else Noarch.Generic
-noarch_said (array elements) = Noarch.Generic
-noarch_said (object members) = Noarch.Generic
+noarch_said (array _) = Noarch.Generic
+noarch_said (object _) = Noarch.Generic
 
 abbrev pub noarch_of : Data → Noarch
 noarch_of value = option_map_or noarch_said (get (codes "noarch") value) Noarch.No

@@ -6,7 +6,6 @@ ghost use Rattle.conda_record.specs.Rules.{IsRecord, IsWellFormed, ReadsBack};
 ghost use Rattle.conda_record.specs.declared.pkg_record.PkgRecord.{PkgRecord};
 
 use conda_path::{dist_laws, ending_laws};
-
 use conda_version::trimmed_law;
 
 /// What is read of a value is the record that it is: each field in its form, and the dist that of
