@@ -3,6 +3,7 @@
 
 mod link;
 mod paths;
+mod record;
 
 use conda_base::Text;
 use rows_text::{Table, print_rows};
@@ -21,7 +22,10 @@ impl Table for Packages {
         if let Some(answer) = paths::answer(alloc, call, arguments)? {
             return Ok(Some(answer));
         }
-        link::answer(alloc, call, arguments)
+        if let Some(answer) = link::answer(alloc, call, arguments)? {
+            return Ok(Some(answer));
+        }
+        record::answer(alloc, call, arguments)
     }
 }
 
