@@ -262,7 +262,7 @@ walk_placed : (whole front : List ℕ) (last : Option ℕ) (at : ℕ) (text : Li
 walk_placed whole front last at [] is_whole is_at h = tt
 walk_placed whole front last at (b ∷ bs) is_whole is_at h =
     by_space (b == 32) refl (parts last bs) refl (λ l behind.
-        walk_placed whole (front ++ b ∷ []) l (at + 1) bs (is_whole ∙ sym (append_assoc front (b ∷ []) bs)) (omega (arith, length-append front (b ∷ []))) behind)
+    walk_placed whole (front ++ b ∷ []) l (at + 1) bs (is_whole ∙ sym (append_assoc front (b ∷ []) bs)) (omega (arith, length-append front (b ∷ []))) behind)
   where
     stands : slice_get whole at ≡ Some b
     stands = ap (slice_get whole) is_at ∙ ap (λ t. slice_get t (length front)) is_whole ∙ get_at front b bs

@@ -44,12 +44,7 @@ fn specs_value(alloc: Global, specs: &[Spec]) -> Result<Vec<Value>, AllocError>
 type Members = Map<String, Value>;
 
 /// Puts a member that is a text.
-fn put_text(
-    alloc: Global,
-    members: &mut Members,
-    name: &str,
-    text: &str,
-) -> Result<(), AllocError>
+fn put_text(alloc: Global, members: &mut Members, name: &str, text: &str) -> Result<(), AllocError>
     ensures { OnOk result (members_view members.new.entries
         ≡ with_member name.now (string text.now) (members_view members.old.entries)) }
 {
@@ -69,7 +64,12 @@ impl PkgRecord {
         let depends = specs_value(alloc, self.depends.as_slice())?;
         let mut made = Map::new(alloc);
         put_text(alloc, &mut made, "build", self.build.as_str())?;
-        put(&mut made, alloc, "build_number", Value::from(self.build_number))?;
+        put(
+            &mut made,
+            alloc,
+            "build_number",
+            Value::from(self.build_number),
+        )?;
         put_text(alloc, &mut made, "channel", self.channel.as_str())?;
         put(&mut made, alloc, "constrains", Value::Array(constrains))?;
         put(&mut made, alloc, "depends", Value::Array(depends))?;

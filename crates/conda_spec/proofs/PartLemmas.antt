@@ -155,5 +155,5 @@ module _ (l : Laws) where
       let build = or_wins given.build front.1.build parts.build is.build in
       let right : IsRight is.clause = subst IsRight (sym clause) (or_right given.version front.1.version k h) in
       let version = is_beside parts.build is.clause parts.version right is.beside ∙ ap (λ b. version_beside b is.clause) build
-          ∙ ap (version_beside (option_or given.build front.1.build)) clause in
+      ∙ ap (version_beside (option_or given.build front.1.build)) clause in
       λ i. record { channel = channel i; subdir = subdir i; name = is.name i; version = version i; build = build i; number = is.number i }

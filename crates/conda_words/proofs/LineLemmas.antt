@@ -368,7 +368,7 @@ module _ (n : ℕ) (lines : List Line) (words : List (List ℕ)) where
   words_bad (Some blank) e (Ok r) f why h =
       subst (IsBadFor (known_of lines) words) (judged_err n whys.Unknown why h)
       (empty blank (found_empty words blank e).empty (λ m w fault.
-          let wrong = fault_read (Some n) (known_of lines) (first nested_line [] lines) words m w fault in cc))
+      let wrong = fault_read (Some n) (known_of lines) (first nested_line [] lines) words m w fault in cc))
   words_bad None e (Err fault) f why h =
       own fault.0 why
       (subst (HasCommandFault true (known_of lines) words fault.0) (judged_err n fault.1 why h) (read_fault (Some n) (known_of lines) (first nested_line [] lines) words fault.0 fault.1 f))
@@ -386,8 +386,8 @@ module _ (n : ℕ) (lines : List Line) (words : List (List ℕ)) where
           let above : blank ≤ fault.0 = grind (arith, nat_tests) in
           subst (IsBadFor (known_of lines) words) (judged_err n whys.Unknown why i)
           (empty blank (found_empty words blank e).empty (λ m w other.
-              let same = fault_same fault m w read f (fault_read (Some n) (known_of lines) (first nested_line [] lines) words m w other) in
-              omega arith))
+          let same = fault_same fault m w read f (fault_read (Some n) (known_of lines) (first nested_line [] lines) words m w other) in
+          omega arith))
 
   bad_for : (why : Why) → IsBadFor (known_of lines) words why → judged n (position is_empty words) read ≡ Err (n, why)
   bad_for why (own at w fault none) =

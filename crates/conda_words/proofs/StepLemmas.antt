@@ -220,9 +220,9 @@ module _ (line : Option ℕ) (known : List (List ℕ)) (nested : Option ℕ) (ve
   word_step Number before n at value_at v =
       also_gate value_at whys.Extra None (number_cause 1 200 v) (n == 0) _ y
       (number_gate value_at 1 200 v (λ k. record r { command = record r.command { verb = verbs.Exercise k } }) y (λ k e.
-          ap (λ t. record r { command = record r.command { verb = t } })
-          (sym (ap (λ o. last_or verb (onto (verbs_named Number before) (cons_option (option_map verbs.Exercise o) []))) e
-          ∙ last_push verb (verbs_named Number before) (verbs.Exercise k)))))
+      ap (λ t. record r { command = record r.command { verb = t } })
+      (sym (ap (λ o. last_or verb (onto (verbs_named Number before) (cons_option (option_map verbs.Exercise o) []))) e
+      ∙ last_push verb (verbs_named Number before) (verbs.Exercise k)))))
     where
       r : Reading
       r = reading_of Number before
@@ -299,10 +299,10 @@ module _ (line : Option ℕ) (known : List (List ℕ)) (nested : Option ℕ) (ve
         ap (λ t. Ok (record r { command = record r.command { pkgs_dir = t } })) (sym (last_push (codes "pkgs") (values kinds.PkgsDir before) v))
     value_step kinds.Jobs at value_at v =
         number_gate value_at 1 16 v (λ n. record r { command = record r.command { jobs = n } }) (next_reading sub.words before (item kinds.Jobs at value_at (Some v))) (λ n e.
-            ap (λ t. record r { command = record r.command { jobs = t } })
-            (sym (ap (last_or 4) (filter_map-append (number_in 1 16) (values kinds.Jobs before) (v ∷ [])
-            ∙ ap (λ o. filter_map (number_in 1 16) (values kinds.Jobs before) ++ cons_option o []) e)
-            ∙ last_push 4 (filter_map (number_in 1 16) (values kinds.Jobs before)) n)))
+        ap (λ t. record r { command = record r.command { jobs = t } })
+        (sym (ap (last_or 4) (filter_map-append (number_in 1 16) (values kinds.Jobs before) (v ∷ [])
+        ∙ ap (λ o. filter_map (number_in 1 16) (values kinds.Jobs before) ++ cons_option o []) e)
+        ∙ last_push 4 (filter_map (number_in 1 16) (values kinds.Jobs before)) n)))
     value_step kinds.Virtual at value_at v =
         gate value_at whys.Unknown (is_virtual v)
         (record r { command = record r.command { virtuals = r.command.virtuals ++ virtual_of v ∷ [] } })
@@ -311,9 +311,9 @@ module _ (line : Option ℕ) (known : List (List ℕ)) (nested : Option ℕ) (ve
     value_step kinds.Revision at value_at v =
         number_gate value_at 0 4294967295 v (λ n. record r { command = record r.command { verb = verbs.Revert n } })
         (next_reading sub.words before (item kinds.Revision at value_at (Some v))) (λ n e.
-            ap (λ t. record r { command = record r.command { verb = t } })
-            (sym (ap (λ o. last_or verb (onto (verbs_named sub.words before) (cons_option (option_map verbs.Revert o) []))) e
-            ∙ last_push verb (verbs_named sub.words before) (verbs.Revert n))))
+        ap (λ t. record r { command = record r.command { verb = t } })
+        (sym (ap (λ o. last_or verb (onto (verbs_named sub.words before) (cons_option (option_map verbs.Revert o) []))) e
+        ∙ last_push verb (verbs_named sub.words before) (verbs.Revert n))))
     value_step kinds.Revisions at value_at v =
         ap (λ t. Ok (record r { command = record r.command { verb = t } })) (sym (last_push verb (verbs_named sub.words before) verbs.Revisions))
     value_step kinds.Copy at value_at v =

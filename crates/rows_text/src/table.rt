@@ -15,11 +15,7 @@ pub trait Table {
 }
 
 /// The answer of a row, or None where there is no such row.
-fn answer_of<T: Table>(
-    alloc: Global,
-    table: &T,
-    line: &str,
-) -> Result<Option<String>, AllocError> {
+fn answer_of<T: Table>(alloc: Global, table: &T, line: &str) -> Result<Option<String>, AllocError> {
     match Row::read(alloc, line)? {
         Some(row) => table.answer(alloc, row.call.as_str(), row.arguments.as_slice()),
         None => Ok(None),
