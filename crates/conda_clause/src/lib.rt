@@ -15,5 +15,7 @@ mod truth;
 pub use clause::VersionClause;
 pub use error::{SpecErr, SpecWhy};
 pub use kept::{Kept, keep};
-pub use laws::{beside_laws, clause_laws, grammar_laws, kept_laws, piece_laws, test_laws, truth_laws};
+pub use laws::{
+    beside_laws, clause_laws, grammar_laws, kept_laws, piece_laws, test_laws, truth_laws,
+};
 pub use star::{glob, glob_lowered};

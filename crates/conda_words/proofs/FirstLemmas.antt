@@ -46,7 +46,7 @@ module _ {A X : Type 0} (ask : List A → A → Option X) where
   first_none before (x ∷ xs) h =
       ap (λ o. option_or o (first (before ++ x ∷ []) xs)) (ap (λ b. ask b x) (sym (append-nil before)) ∙ h [] x xs refl)
       ∙ first_none (before ++ x ∷ []) xs (λ front i behind e.
-          ap (λ b. ask b i) (append_assoc before (x ∷ []) front) ∙ h (x ∷ front) i behind (ap (λ t. x ∷ t) e))
+      ap (λ b. ask b i) (append_assoc before (x ∷ []) front) ∙ h (x ∷ front) i behind (ap (λ t. x ∷ t) e))
 
   -- the first element that has an answer
   pub record FirstBehind (before is : List A) (x : X) : Type 0 where
@@ -81,7 +81,8 @@ module _ {A X : Type 0} (ask : List A → A → Option X) where
             wrong = ap (λ b. ask b more.bad) (sym (append_assoc before (i ∷ []) more.front)) ∙ more.wrong;
           }
 
-  pub first_some : (before front : List A) (bad : A) (behind : List A) (x : X) → first before front ≡ None → ask (before ++ front) bad ≡ Some x
+  pub first_some : (before front : List A) (bad : A) (behind : List A) (x : X) → first before front ≡ None
+      → ask (before ++ front) bad ≡ Some x
       → first before (front ++ bad ∷ behind) ≡ Some x
   first_some before front bad behind x right wrong =
       first_append before front (bad ∷ behind) ∙ ap (λ o. option_or o (first (before ++ front) (bad ∷ behind))) right
