@@ -1,8 +1,7 @@
 -- A clause says the same of versions that are equal in order.
-use Rattle.std.proofs.Common.{◌≡◌, ℕ, Bool, true, false, not, List, [], ◌∷◌, refl, ap, ◌∙◌}
+use Rattle.std.proofs.Common.{◌≡◌, ℕ, Bool, false, not, List, [], ◌∷◌, refl, ap, ◌∙◌}
 use Rattle.std.specs.Prelude.{◌&&◌}
 use Rattle.std.specs.Ordering.{is_eq, is_ge, is_gt, is_le, is_lt}
-use Rattle.std.specs.declared.cmp.Ordering.TheVariants.{Equal}
 use Rattle.conda_version.specs.Order.{version_cmp, version_starts}
 use Rattle.conda_clause.specs.declared.test.Test.{Test}
 use Rattle.conda_clause.specs.declared.test.Test.TheVariants.{Any, Is, IsAbove, IsAtLeast, IsAtMost, IsBelow, IsNear, IsNot, Starts, StartsNot}
@@ -30,7 +29,8 @@ module _ (x y : List ℕ) (h : AreAlike x y) where
   test_alike (IsAtLeast v) = ap is_ge (h.order v)
   test_alike (Starts v) = h.begin v
   test_alike (StartsNot v) = ap not (h.begin v)
-  test_alike (IsNear v front) = ap (λ o. is_ge o && version_starts x front) (h.order v) ∙ ap (λ k. is_ge (version_cmp y v) && k) (h.begin front)
+  test_alike (IsNear v front) =
+      ap (λ o. is_ge o && version_starts x front) (h.order v) ∙ ap (λ k. is_ge (version_cmp y v) && k) (h.begin front)
 
   token_alike : (value : Bool) (pass : Pass) (t : Token) → read_token x value pass t ≡ read_token y value pass t
   token_alike value Read (token.Test test) = ap (λ k. (k, Read)) (test_alike test)

@@ -28,7 +28,8 @@ record IsOneTest (text : List ℕ) (t : Test) : Type 0 where
   pub token : tokens text ≡ token.Test t ∷ []
 
 one_test : (law : NoDotEnd) (text : List ℕ) (t : Test) → test_of text ≡ Some t → IsOneTest text t
-one_test law text t h = record { good = clause_all law text (part (single (alone t)), read_table text t h, lit≤ tt); token = (test_means text t h).tokens }
+one_test law text t h =
+    record { good = clause_all law text (part (single (alone t)), read_table text t h, lit≤ tt); token = (test_means text t h).tokens }
 
 -- Lower case, a character at a time.
 
@@ -81,7 +82,9 @@ only_version : (text v : List ℕ) → clause_fault text ≡ None → map to_asc
 only_version text v good lower e =
     let spelled : Spells (token.Test (Starts v) ∷ []) text =
     subst (λ ts. Spells ts text) e (text_spells text (tokens_all Atom 0 0 (pieces text) (left_none text good))) in
-    let is : IsTest text (Starts v) = subst (λ t. IsTest t (Starts v)) (sym (spelled.2 ∙ ap (λ r. spelled.0 ++ r) spelled.4 ∙ append-nil spelled.0)) (read_table spelled.0 (Starts v) spelled.3) in
+    let is : IsTest text (Starts v) =
+    subst (λ t. IsTest t (Starts v)) (sym (spelled.2 ∙ ap (λ r. spelled.0 ++ r) spelled.4 ∙ append-nil spelled.0))
+    (read_table spelled.0 (Starts v) spelled.3) in
     (is.0, all_lower v (starts_lower text v is (lower_all text lower)))
 
 -- The clause beside a build is one, in lower case, of the same tokens, and stays what it is.
@@ -99,7 +102,8 @@ stays text good lower e = record {
   fixed = ap beside_build e;
 }
 
-turns : (text to : List ℕ) (test : Test) → beside_build text ≡ to → IsOneTest to test → map to_ascii_lowercase to ≡ to → beside_build to ≡ to
+turns : (text to : List ℕ) (test : Test) → beside_build text ≡ to → IsOneTest to test → map to_ascii_lowercase to ≡ to
+    → beside_build to ≡ to
     → tokens text ≡ token.Test test ∷ [] → IsSoundBeside text
 turns text to test e one lower fixed is = record {
   good = ap clause_fault e ∙ one.good;
@@ -110,9 +114,11 @@ turns text to test e one lower fixed is = record {
 
 star_fixed : (v : List ℕ) → IsFaultless v → beside_build (v ++ codes ".*") ≡ v ++ codes ".*"
 star_fixed v h =
-    ap (λ s. if is_single s then tokens_beside_build (v ++ codes ".*") (tokens (v ++ codes ".*")) else v ++ codes ".*") (plain_sign (v ++ codes ".*") (ended_beside dot_star v h))
+    ap (λ s. if is_single s then tokens_beside_build (v ++ codes ".*") (tokens (v ++ codes ".*")) else v ++ codes ".*")
+    (plain_sign (v ++ codes ".*") (ended_beside dot_star v h))
 
-by_test : (law : NoDotEnd) (text : List ℕ) (test : Test) → clause_fault text ≡ None → map to_ascii_lowercase text ≡ text → beside_build text ≡ test_beside_build text test
+by_test : (law : NoDotEnd) (text : List ℕ) (test : Test) → clause_fault text ≡ None → map to_ascii_lowercase text ≡ text
+    → beside_build text ≡ test_beside_build text test
     → tokens text ≡ token.Test test ∷ [] → IsSoundBeside text
 by_test law text (Starts v) good lower e is =
     let version = only_version text v good lower is in
@@ -121,7 +127,8 @@ by_test law text (Starts v) good lower e is =
 by_test law text Any good lower e is = turns text (codes "*") Any e (one_test law (codes "*") Any refl) refl refl is
 by_test law text test good lower e is = stays text good lower e
 
-by_tokens : (law : NoDotEnd) (text : List ℕ) (ts : List Token) → clause_fault text ≡ None → map to_ascii_lowercase text ≡ text → beside_build text ≡ tokens_beside_build text ts → tokens text ≡ ts → IsSoundBeside text
+by_tokens : (law : NoDotEnd) (text : List ℕ) (ts : List Token) → clause_fault text ≡ None → map to_ascii_lowercase text ≡ text
+    → beside_build text ≡ tokens_beside_build text ts → tokens text ≡ ts → IsSoundBeside text
 by_tokens law text (token.Test test ∷ []) good lower e is = by_test law text test good lower e is
 by_tokens law text ts good lower e is = stays text good lower e
 
@@ -130,4 +137,5 @@ is_beside_build law text good lower = by_single (is_single (sign_of text)) refl
   where
     by_single : (k : Bool) → is_single (sign_of text) ≡ k → IsSoundBeside text
     by_single false e = stays text good lower (ap (λ k. if k then tokens_beside_build text (tokens text) else text) e)
-    by_single true e = by_tokens law text (tokens text) good lower (ap (λ k. if k then tokens_beside_build text (tokens text) else text) e) refl
+    by_single true e =
+        by_tokens law text (tokens text) good lower (ap (λ k. if k then tokens_beside_build text (tokens text) else text) e) refl

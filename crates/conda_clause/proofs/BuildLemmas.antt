@@ -1,5 +1,5 @@
 -- How a clause is written beside a build, and that it holds for the same versions there.
-use Rattle.std.proofs.Common.{◌≡◌, ◌↔◌, ℕ, Bool, true, false, List, [], ◌∷◌, ◌++◌, codes, Contains, None, refl, sym, ap, subst, ◌∙◌, lit<, append-nil, true≢false}
+use Rattle.std.proofs.Common.{◌≡◌, ℕ, Bool, true, false, List, [], ◌∷◌, ◌++◌, codes, Contains, None, refl, sym, ap, subst, ◌∙◌, lit<, append-nil, true≢false}
 use Rattle.std.specs.Prelude.{if◌then◌else◌}
 use Rattle.conda_clause.specs.declared.reading.Wanted.TheVariants.{Atom}
 use Rattle.conda_clause.specs.declared.test.Sign.TheVariants.{Plain, Single}
@@ -12,7 +12,7 @@ use Rattle.conda_clause.specs.Beside.{IsBesideBuild, IsNoSingle, single_texts}
 use Rattle.conda_clause.specs.Beside.IsBesideBuild.{always, as_it_is, starts}
 use Rattle.conda_clause.specs.Clause.{beside_build, clause_fault, is_single, tokens_beside_build}
 use Rattle.conda_clause.specs.Pieces.{pieces, tokens}
-use Rattle.conda_clause.specs.Tests.{IsFaultless, IsTest, sign_of, test_of, test_texts}
+use Rattle.conda_clause.specs.Tests.{IsFaultless, IsTest, sign_of, test_texts}
 use Rattle.conda_clause.specs.Truth.{clause_holds, tokens_true}
 use Rattle.conda_clause.proofs.FaultLemmas.{left_none, tokens_all}
 use Rattle.conda_clause.proofs.FormLemmas.{Ending, bare, behind_sign, dot_star, ended, ended_beside, form, of_all, plain_sign, read_table, sign_found, star_only}
@@ -81,7 +81,8 @@ one_test : (text : List ℕ) (test : Test) → clause_fault text ≡ None → to
 one_test text test good e =
     let spelled : Spells (token.Test test ∷ []) text =
     subst (λ ts. Spells ts text) e (text_spells text (tokens_all Atom 0 0 (pieces text) (left_none text good))) in
-    subst (λ t. IsTest t test) (sym (spelled.2 ∙ ap (λ r. spelled.0 ++ r) spelled.4 ∙ append-nil spelled.0)) (read_table spelled.0 test spelled.3)
+    subst (λ t. IsTest t test) (sym (spelled.2 ∙ ap (λ r. spelled.0 ++ r) spelled.4 ∙ append-nil spelled.0))
+    (read_table spelled.0 test spelled.3)
 
 in_singles : (text v : List ℕ) → IsTest text (Starts v) → is_single (sign_of text) ≡ true → Contains (single_texts v) text
 in_singles text v h sign =
@@ -167,7 +168,8 @@ module _ (law : NoDotEnd) where
       by_kind (other same e) = sym e
 
   -- it holds for the same versions
-  pub beside_holds : (text version : List ℕ) → clause_fault text ≡ None → clause_holds (beside_build text) version ≡ clause_holds text version
+  pub beside_holds : (text version : List ℕ) → clause_fault text ≡ None
+      → clause_holds (beside_build text) version ≡ clause_holds text version
   beside_holds text version good = by_kind (kind_of text good)
     where
       by_kind : Kind text → clause_holds (beside_build text) version ≡ clause_holds text version

@@ -7,4 +7,5 @@ use Rattle.std.specs.Char.{to_ascii_lowercase}
 pub lowered_twice : (xs : List ℕ) → map to_ascii_lowercase (map to_ascii_lowercase xs) ≡ map to_ascii_lowercase xs
 lowered_twice [] = refl
 lowered_twice (x ∷ xs) =
-    ap (λ b. b ∷ map to_ascii_lowercase (map to_ascii_lowercase xs)) (lowercase-lowercase x) ∙ ap (λ bs. to_ascii_lowercase x ∷ bs) (lowered_twice xs)
+    ap (λ b. b ∷ map to_ascii_lowercase (map to_ascii_lowercase xs)) (lowercase-lowercase x)
+    ∙ ap (λ bs. to_ascii_lowercase x ∷ bs) (lowered_twice xs)

@@ -19,7 +19,8 @@ use Rattle.conda_clause.proofs.TestLemmas.{NoDotEnd, all_more, and_both, and_lef
 clause_char : (b : ℕ) → is_test_char b ≡ true → is_clause_char b ≡ true
 clause_char b h = grind (arith, nat_tests)
 
-joint_chars : (s : List ℕ) (m : ℕ) (t : List ℕ) → is_clause_char m ≡ true → list_all is_clause_char s ≡ true → list_all is_clause_char t ≡ true
+joint_chars : (s : List ℕ) (m : ℕ) (t : List ℕ) → is_clause_char m ≡ true → list_all is_clause_char s ≡ true
+    → list_all is_clause_char t ≡ true
     → list_all is_clause_char (s ++ m ∷ t) ≡ true
 joint_chars s m t h f g =
     list_all-append is_clause_char s (m ∷ t)
@@ -27,13 +28,16 @@ joint_chars s m t h f g =
 
 writes_chars : (law : NoDotEnd) {rank : Rank} (tree : Tree rank) (text : List ℕ) → Writes tree text → list_all is_clause_char text ≡ true
 writes_chars law (part p) text h = writes_chars law p text h
-writes_chars law (either p more) text h = ap (list_all is_clause_char) h.2 ∙ joint_chars h.0 bar h.1 refl (writes_chars law p h.0 h.3) (writes_chars law more h.1 h.4)
+writes_chars law (either p more) text h =
+    ap (list_all is_clause_char) h.2 ∙ joint_chars h.0 bar h.1 refl (writes_chars law p h.0 h.3) (writes_chars law more h.1 h.4)
 writes_chars law (single a) text h = writes_chars law a text h
-writes_chars law (both a more) text h = ap (list_all is_clause_char) h.2 ∙ joint_chars h.0 comma h.1 refl (writes_chars law a h.0 h.3) (writes_chars law more h.1 h.4)
+writes_chars law (both a more) text h =
+    ap (list_all is_clause_char) h.2 ∙ joint_chars h.0 comma h.1 refl (writes_chars law a h.0 h.3) (writes_chars law more h.1 h.4)
 writes_chars law (test t) text h = all_more is_test_char is_clause_char clause_char text (test_chars text t (table_read law text t h))
 writes_chars law (parens inside) text h =
     ap (list_all is_clause_char) h.1
-    ∙ joint_chars [] open_paren (h.0 ++ close_paren ∷ []) refl refl (joint_chars h.0 close_paren [] refl (writes_chars law inside h.0 h.2) refl)
+    ∙ joint_chars [] open_paren (h.0 ++ close_paren ∷ []) refl refl
+    (joint_chars h.0 close_paren [] refl (writes_chars law inside h.0 h.2) refl)
 
 -- each character of a clause is one that a clause may hold
 pub clause_chars : (law : NoDotEnd) (text : List ℕ) → clause_fault text ≡ None → list_all is_clause_char text ≡ true
@@ -55,7 +59,8 @@ body_ends : (w : List ℕ) → 0 < length w → list_all is_beside w ≡ true �
 body_ends [] h k = absurd (omega arith)
 body_ends (b ∷ []) h k = ([], b, refl, ap (λ q. q || b == close_paren) (and_left (is_beside b) true k))
 body_ends (b ∷ c ∷ cs) h k =
-    behind_ends (b ∷ c ∷ cs) (b ∷ []) (c ∷ cs) refl (body_ends (c ∷ cs) (omega arith) (and_right (is_beside b) (list_all is_beside (c ∷ cs)) k))
+    behind_ends (b ∷ c ∷ cs) (b ∷ []) (c ∷ cs) refl
+    (body_ends (c ∷ cs) (omega arith) (and_right (is_beside b) (list_all is_beside (c ∷ cs)) k))
 
 joint_ends : (text front : List ℕ) (joint : ℕ) (back : List ℕ) → text ≡ front ++ joint ∷ back → EndsWell back → EndsWell text
 joint_ends text front joint back e h = behind_ends text (front ++ joint ∷ []) back (e ∙ sym (append_assoc front (joint ∷ []) back)) h
@@ -76,11 +81,17 @@ never_last k f text h = ap (ends_with k) h.2 ∙ ends_at h.0 k h.1 ∙ unlike is
 
 -- no clause ends with `,`, `|`, `<`, `>` or `=`
 pub ends_well : (law : NoDotEnd) (text : List ℕ) → clause_fault text ≡ None
-    → (ends_with comma text ≡ false) × (ends_with bar text ≡ false) × (ends_with less text ≡ false) × (ends_with greater text ≡ false) × (ends_with equals text ≡ false)
+    → (ends_with comma text ≡ false) × (ends_with bar text ≡ false) × (ends_with less text ≡ false) × (ends_with greater text ≡ false)
+    × (ends_with equals text ≡ false)
 ends_well law text h =
     let is = clause_only text h in
-    let well = writes_ends law is.0 text is.1 in
-    (never_last comma refl text well, never_last bar refl text well, never_last less refl text well, never_last greater refl text well, never_last equals refl text well)
+    let well = writes_ends law is.0 text is.1 in (
+      never_last comma refl text well,
+      never_last bar refl text well,
+      never_last less refl text well,
+      never_last greater refl text well,
+      never_last equals refl text well,
+    )
 
 -- and none begins with a joint
 pub begins_well : (text : List ℕ) → clause_fault text ≡ None → (bs : List ℕ) → (text ≡ comma ∷ bs → ⊥) × (text ≡ bar ∷ bs → ⊥)

@@ -39,7 +39,8 @@ no_bar bs h = let left = left_none (124 ∷ bs) h in cc
 abbrev pub is_token : List ℕ → Bool
 is_token piece = is_some (token_of piece)
 
-pub after_none : (at : ℕ) (r : Result (Wanted × ℕ) SpecWhy) (next : Wanted → ℕ → Option (ℕ × SpecWhy)) → after r next (λ why. Some (at, why)) ≡ None
+pub after_none : (at : ℕ) (r : Result (Wanted × ℕ) SpecWhy) (next : Wanted → ℕ → Option (ℕ × SpecWhy))
+    → after r next (λ why. Some (at, why)) ≡ None
     → (state : Wanted × ℕ) × (r ≡ Ok state) × (next state.0 state.1 ≡ None)
 after_none at (Ok state) next h = (state, refl, h)
 after_none at (Err why) next h = absurd cc

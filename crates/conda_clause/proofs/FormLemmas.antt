@@ -45,7 +45,8 @@ ends_at xs k y =
 pub shortened_is : (xs : List ℕ) (y : ℕ) → shortened (xs ++ y ∷ []) ≡ xs
 shortened_is xs y = ap (λ n. take n (xs ++ y ∷ [])) (len_less xs y) ∙ take_at xs (y ∷ []) (length xs) refl
 
-last_is : (k x : ℕ) (xs : List ℕ) → option_map_or (λ b. b == k) (slice_get (x ∷ xs) (length xs)) false ≡ true → x ∷ xs ≡ take (length xs) (x ∷ xs) ++ k ∷ []
+last_is : (k x : ℕ) (xs : List ℕ) → option_map_or (λ b. b == k) (slice_get (x ∷ xs) (length xs)) false ≡ true
+    → x ∷ xs ≡ take (length xs) (x ∷ xs) ++ k ∷ []
 last_is k x [] h = ap (λ b. b ∷ []) (test_equal x k h)
 last_is k x (y ∷ ys) h = ap (λ r. x ∷ r) (last_is k y ys h)
 
@@ -53,7 +54,8 @@ pub ends_split : (k : ℕ) (xs : List ℕ) → ends_with k xs ≡ true → xs �
 ends_split k [] h = absurd cc
 ends_split k (x ∷ xs) h =
     let e : length (x ∷ xs) - 1 ≡ length xs = omega arith in
-    last_is k x xs (sym (ap (λ n. option_map_or (λ b. b == k) (slice_get (x ∷ xs) n) false) e) ∙ h) ∙ ap (λ n. take n (x ∷ xs) ++ k ∷ []) (sym e)
+    last_is k x xs (sym (ap (λ n. option_map_or (λ b. b == k) (slice_get (x ∷ xs) n) false) e) ∙ h)
+    ∙ ap (λ n. take n (x ∷ xs) ++ k ∷ []) (sym e)
 
 -- no text of such characters ends with another one
 pub never_ends : (p : ℕ → Bool) (k : ℕ) (xs : List ℕ) → list_all p xs ≡ true → p k ≡ false → ends_with k xs ≡ false
@@ -63,7 +65,8 @@ never_ends p k xs h f = by_end (ends_with k xs) refl
     by_end false e = refl
     by_end true e =
         let front : List ℕ = shortened xs in
-        let both : (list_all p front && (p k && true)) ≡ true = sym (ap (list_all p) (ends_split k xs e) ∙ list_all-append p front (k ∷ [])) ∙ h in
+        let both : (list_all p front && (p k && true)) ≡ true =
+        sym (ap (list_all p) (ends_split k xs e) ∙ list_all-append p front (k ∷ [])) ∙ h in
         let at_end = and_left (p k) true (and_right (list_all p front) (p k && true) both) in
         absurd (true≢false (sym at_end ∙ f))
 
@@ -131,7 +134,8 @@ plain_sign [] h = refl
 plain_sign (b ∷ bs) h =
     let first = and_left (is_beside b) (list_all is_beside bs) h in
     let rest = and_right (is_beside b) (list_all is_beside bs) h in
-    ap (λ e. sign_by e (b == less) (b == greater) (b == exclamation) (b == tilde) (begins_with equals bs)) (unlike is_beside b equals first refl)
+    ap (λ e. sign_by e (b == less) (b == greater) (b == exclamation) (b == tilde) (begins_with equals bs))
+    (unlike is_beside b equals first refl)
     ∙ ap (λ l. sign_by false l (b == greater) (b == exclamation) (b == tilde) (begins_with equals bs)) (unlike is_beside b less first refl)
     ∙ ap (λ g. sign_by false false g (b == exclamation) (b == tilde) (begins_with equals bs)) (unlike is_beside b greater first refl)
     ∙ ap (sign_by false false false (b == exclamation) (b == tilde)) (no_equals bs rest)
@@ -198,7 +202,8 @@ not_star sign b bs h = ap (λ k. is_equal_sign sign && (k && pointwise nat_eq bs
 not_any : (sign : Sign) (ending : Ending) (v : List ℕ) → IsFaultless v → is_any sign (ended ending v) ≡ false
 not_any sign ending [] h = absurd cc
 not_any sign ending (b ∷ bs) h =
-    by_ending ending (unlike is_version_char b star (and_left (is_version_char b) (list_all is_version_char bs) (version_chars (b ∷ bs) h)) refl)
+    by_ending ending (unlike is_version_char b star
+    (and_left (is_version_char b) (list_all is_version_char bs) (version_chars (b ∷ bs) h)) refl)
   where
     by_ending : (e : Ending) → (b == star) ≡ false → is_any sign (ended e (b ∷ bs)) ≡ false
     by_ending bare f = not_star sign b bs f
@@ -206,10 +211,12 @@ not_any sign ending (b ∷ bs) h =
     by_ending dot_star f = not_star sign b (bs ++ codes ".*") f
 
 -- A test is read by its sign, its version and its star.
-pub form : (law : NoDotEnd) (sign : Sign) (ending : Ending) (v : List ℕ) → IsFaultless v → test_of (behind_sign sign (ended ending v)) ≡ test_with sign (has_star ending) v
+pub form : (law : NoDotEnd) (sign : Sign) (ending : Ending) (v : List ℕ) → IsFaultless v
+    → test_of (behind_sign sign (ended ending v)) ≡ test_with sign (has_star ending) v
 form law sign ending v h =
     let w : List ℕ = ended ending v in
-    sym (test_found (behind_sign sign w) sign (sign_len sign) w (has_star ending) v (sym (sign_found sign w (ended_beside ending v h))) refl (signed_found sign w)
+    sym (test_found (behind_sign sign w) sign (sign_len sign) w (has_star ending) v (sym (sign_found sign w (ended_beside ending v h))) refl
+    (signed_found sign w)
     (not_any sign ending v h) (sym (star_seen ending v h)) (ap version_text (star_off law ending v h) ∙ version_is v h))
 
 -- What is in the table is read.
@@ -219,22 +226,29 @@ of_all P [] all x (k, less, is) = absurd (omega arith)
 of_all P (y ∷ ys) all x (zero, less, is) = subst P is all.0
 of_all P (y ∷ ys) all x (suc k, less, is) = of_all P ys all.1 x (k, omega arith, is)
 
-near_read : (v front last : List ℕ) → IsFaultless front → cut_last dot v ≡ Some (front, last) → test_with Near false v ≡ Some (IsNear v front)
+near_read : (v front last : List ℕ) → IsFaultless front → cut_last dot v ≡ Some (front, last)
+    → test_with Near false v ≡ Some (IsNear v front)
 near_read v front last h e =
-    ap (λ cut. option_map (λ f. IsNear v f) (option_and_then (λ halves. version_text halves.0) cut)) e ∙ ap (option_map (λ f. IsNear v f)) (version_is front h)
+    ap (λ cut. option_map (λ f. IsNear v f) (option_and_then (λ halves. version_text halves.0) cut)) e
+    ∙ ap (option_map (λ f. IsNear v f)) (version_is front h)
 
 pub table_read : (law : NoDotEnd) (text : List ℕ) (test : Test) → IsTest text test → test_of text ≡ Some test
 table_read law text Any h = of_all (λ t. test_of t ≡ Some Any) (test_texts Any) (refl, (refl, (refl, tt))) text h.1
-table_read law text (Is v) h = of_all (λ t. test_of t ≡ Some (Is v)) (test_texts (Is v)) (form law Plain bare v h.0, (form law Double bare v h.0, tt)) text h.1
+table_read law text (Is v) h =
+    of_all (λ t. test_of t ≡ Some (Is v)) (test_texts (Is v)) (form law Plain bare v h.0, (form law Double bare v h.0, tt)) text h.1
 table_read law text (IsNot v) h = of_all (λ t. test_of t ≡ Some (IsNot v)) (test_texts (IsNot v)) (form law Unequal bare v h.0, tt) text h.1
 table_read law text (IsBelow v) h =
-    of_all (λ t. test_of t ≡ Some (IsBelow v)) (test_texts (IsBelow v)) (form law Below bare v h.0, (form law Below star_only v h.0, (form law Below dot_star v h.0, tt))) text h.1
+    of_all (λ t. test_of t ≡ Some (IsBelow v)) (test_texts (IsBelow v))
+    (form law Below bare v h.0, (form law Below star_only v h.0, (form law Below dot_star v h.0, tt))) text h.1
 table_read law text (IsAtMost v) h =
-    of_all (λ t. test_of t ≡ Some (IsAtMost v)) (test_texts (IsAtMost v)) (form law AtMost bare v h.0, (form law AtMost star_only v h.0, (form law AtMost dot_star v h.0, tt))) text h.1
+    of_all (λ t. test_of t ≡ Some (IsAtMost v)) (test_texts (IsAtMost v))
+    (form law AtMost bare v h.0, (form law AtMost star_only v h.0, (form law AtMost dot_star v h.0, tt))) text h.1
 table_read law text (IsAbove v) h =
-    of_all (λ t. test_of t ≡ Some (IsAbove v)) (test_texts (IsAbove v)) (form law Above bare v h.0, (form law Above star_only v h.0, (form law Above dot_star v h.0, tt))) text h.1
+    of_all (λ t. test_of t ≡ Some (IsAbove v)) (test_texts (IsAbove v))
+    (form law Above bare v h.0, (form law Above star_only v h.0, (form law Above dot_star v h.0, tt))) text h.1
 table_read law text (IsAtLeast v) h =
-    of_all (λ t. test_of t ≡ Some (IsAtLeast v)) (test_texts (IsAtLeast v)) (form law AtLeast bare v h.0, (form law AtLeast star_only v h.0, (form law AtLeast dot_star v h.0, tt))) text h.1
+    of_all (λ t. test_of t ≡ Some (IsAtLeast v)) (test_texts (IsAtLeast v))
+    (form law AtLeast bare v h.0, (form law AtLeast star_only v h.0, (form law AtLeast dot_star v h.0, tt))) text h.1
 table_read law text (Starts v) h =
     of_all (λ t. test_of t ≡ Some (Starts v)) (test_texts (Starts v)) (
       form law Single bare v h.0,
@@ -254,16 +268,19 @@ table_read law text (Starts v) h =
     )
     text h.1
 table_read law text (StartsNot v) h =
-    of_all (λ t. test_of t ≡ Some (StartsNot v)) (test_texts (StartsNot v)) (form law Unequal star_only v h.0, (form law Unequal dot_star v h.0, tt)) text h.1
+    of_all (λ t. test_of t ≡ Some (StartsNot v)) (test_texts (StartsNot v))
+    (form law Unequal star_only v h.0, (form law Unequal dot_star v h.0, tt)) text h.1
 table_read law text (IsNear v front) h =
-    of_all (λ t. test_of t ≡ Some (IsNear v front)) (test_texts (IsNear v front)) (form law Near bare v h.0.0 ∙ near_read v front h.0.2 h.0.1 h.0.3, tt) text h.1
+    of_all (λ t. test_of t ≡ Some (IsNear v front)) (test_texts (IsNear v front))
+    (form law Near bare v h.0.0 ∙ near_read v front h.0.2 h.0.1 h.0.3, tt) text h.1
 
 -- What is read is in the table.
 
 given : (text : List ℕ) (test found : Test) → Some found ≡ Some test → IsTest text found → IsTest text test
 given text test found e h = let same : found ≡ test = cc in subst (IsTest text) same h
 
-pub formed : (sign : Sign) (ending : Ending) (v : List ℕ) (test : Test) → IsFaultless v → test_with sign (has_star ending) v ≡ Some test → IsTest (behind_sign sign (ended ending v)) test
+pub formed : (sign : Sign) (ending : Ending) (v : List ℕ) (test : Test) → IsFaultless v → test_with sign (has_star ending) v ≡ Some test
+    → IsTest (behind_sign sign (ended ending v)) test
 formed Plain bare v test h e = given v test (Is v) e (h, (0, lit< tt, refl))
 formed Plain star_only v test h e = given (v ++ codes "*") test (Starts v) e (h, (5, lit< tt, refl))
 formed Plain dot_star v test h e = given (v ++ codes ".*") test (Starts v) e (h, (6, lit< tt, refl))
@@ -307,19 +324,23 @@ equals_first : (bs : List ℕ) → begins_with equals bs ≡ true → bs ≡ equ
 equals_first [] h = absurd cc
 equals_first (c ∷ cs) h = ap (λ d. d ∷ cs) (test_equal c equals h)
 
-split_by : (b : ℕ) (bs : List ℕ) (e l g x n q : Bool) → (b == equals) ≡ e → (b == less) ≡ l → (b == greater) ≡ g → (b == exclamation) ≡ x → (b == tilde) ≡ n
+split_by : (b : ℕ) (bs : List ℕ) (e l g x n q : Bool) → (b == equals) ≡ e → (b == less) ≡ l → (b == greater) ≡ g → (b == exclamation) ≡ x
+    → (b == tilde) ≡ n
     → begins_with equals bs ≡ q → b ∷ bs ≡ behind_sign (sign_by e l g x n q) (drop (sign_len (sign_by e l g x n q)) (b ∷ bs))
 unfolding sign_by
 split_by b bs true l g x n true he hl hg hx hn hq = ap (λ c. c ∷ bs) (test_equal b equals he) ∙ ap (λ r. equals ∷ r) (equals_first bs hq)
 split_by b bs true l g x n false he hl hg hx hn hq = ap (λ c. c ∷ bs) (test_equal b equals he)
 split_by b bs false true g x n true he hl hg hx hn hq = ap (λ c. c ∷ bs) (test_equal b less hl) ∙ ap (λ r. less ∷ r) (equals_first bs hq)
 split_by b bs false true g x n false he hl hg hx hn hq = ap (λ c. c ∷ bs) (test_equal b less hl)
-split_by b bs false false true x n true he hl hg hx hn hq = ap (λ c. c ∷ bs) (test_equal b greater hg) ∙ ap (λ r. greater ∷ r) (equals_first bs hq)
+split_by b bs false false true x n true he hl hg hx hn hq =
+    ap (λ c. c ∷ bs) (test_equal b greater hg) ∙ ap (λ r. greater ∷ r) (equals_first bs hq)
 split_by b bs false false true x n false he hl hg hx hn hq = ap (λ c. c ∷ bs) (test_equal b greater hg)
-split_by b bs false false false true n true he hl hg hx hn hq = ap (λ c. c ∷ bs) (test_equal b exclamation hx) ∙ ap (λ r. exclamation ∷ r) (equals_first bs hq)
+split_by b bs false false false true n true he hl hg hx hn hq =
+    ap (λ c. c ∷ bs) (test_equal b exclamation hx) ∙ ap (λ r. exclamation ∷ r) (equals_first bs hq)
 split_by b bs false false false true true false he hl hg hx hn hq = refl
 split_by b bs false false false true false false he hl hg hx hn hq = refl
-split_by b bs false false false false true true he hl hg hx hn hq = ap (λ c. c ∷ bs) (test_equal b tilde hn) ∙ ap (λ r. tilde ∷ r) (equals_first bs hq)
+split_by b bs false false false false true true he hl hg hx hn hq =
+    ap (λ c. c ∷ bs) (test_equal b tilde hn) ∙ ap (λ r. tilde ∷ r) (equals_first bs hq)
 split_by b bs false false false false true false he hl hg hx hn hq = refl
 split_by b bs false false false false false true he hl hg hx hn hq = refl
 split_by b bs false false false false false false he hl hg hx hn hq = refl
@@ -328,19 +349,22 @@ sign_split : (text : List ℕ) → text ≡ behind_sign (sign_of text) (signed t
 unfolding sign_by
 sign_split [] = refl
 sign_split (b ∷ bs) =
-    split_by b bs (b == equals) (b == less) (b == greater) (b == exclamation) (b == tilde) (begins_with equals bs) refl refl refl refl refl refl
+    split_by b bs (b == equals) (b == less) (b == greater) (b == exclamation) (b == tilde)
+    (begins_with equals bs) refl refl refl refl refl refl
 
 -- and what is behind it is a text with or without a star
 star_split : (s : List ℕ) → (ending : Ending) × (s ≡ ended ending (without_star s)) × (ends_with star s ≡ has_star ending)
 star_split s = by_star (ends_with star s) (ends_with dot (shortened s)) refl refl
   where
     by_star : (k j : Bool) → ends_with star s ≡ k → ends_with dot (shortened s) ≡ j
-        → (ending : Ending) × (s ≡ ended ending (if k then (if j then shortened (shortened s) else shortened s) else s)) × (k ≡ has_star ending)
+        → (ending : Ending) × (s ≡ ended ending (if k then (if j then shortened (shortened s) else shortened s) else s))
+        × (k ≡ has_star ending)
     by_star false j e f = (bare, refl, refl)
     by_star true false e f = (star_only, ends_split star s e, refl)
     by_star true true e f = (
       dot_star,
-      ends_split star s e ∙ ap (λ t. t ++ codes "*") (ends_split dot (shortened s) f) ∙ append_assoc (shortened (shortened s)) (codes ".") (codes "*"),
+      ends_split star s e ∙ ap (λ t. t ++ codes "*") (ends_split dot (shortened s) f)
+          ∙ append_assoc (shortened (shortened s)) (codes ".") (codes "*"),
       refl,
     )
 
@@ -350,7 +374,8 @@ any_is sign (c ∷ []) h = (
   and_left (is_equal_sign sign) (nat_eq c star && true) h,
   ap (λ d. d ∷ []) (test_equal c star (and_left (nat_eq c star) true (and_right (is_equal_sign sign) (nat_eq c star && true) h))),
 )
-any_is sign (c ∷ d ∷ ds) h = absurd (true≢false (sym (and_right (nat_eq c star) false (and_right (is_equal_sign sign) (nat_eq c star && false) h))))
+any_is sign (c ∷ d ∷ ds) h =
+    absurd (true≢false (sym (and_right (nat_eq c star) false (and_right (is_equal_sign sign) (nat_eq c star && false) h))))
 
 any_formed : (sign : Sign) → is_equal_sign sign ≡ true → IsTest (behind_sign sign (codes "*")) Any
 any_formed Plain h = (tt, (0, lit< tt, refl))
@@ -374,7 +399,8 @@ pub read_table : (text : List ℕ) (test : Test) → test_of text ≡ Some test 
 read_table text test h = by_any (is_any (sign_of text) (signed text)) refl (version_text (without_star (signed text))) refl h
   where
     by_any : (k : Bool) → is_any (sign_of text) (signed text) ≡ k → (o : Option (List ℕ)) → version_text (without_star (signed text)) ≡ o
-        → (if k then Some Any else option_and_then (test_with (sign_of text) (ends_with star (signed text))) o) ≡ Some test → IsTest text test
+        → (if k then Some Any else option_and_then (test_with (sign_of text) (ends_with star (signed text))) o) ≡ Some test
+        → IsTest text test
     by_any true e o f g =
         let any = any_is (sign_of text) (signed text) e in
         let whole : text ≡ behind_sign (sign_of text) (codes "*") = sign_split text ∙ ap (behind_sign (sign_of text)) any.1 in
@@ -383,7 +409,8 @@ read_table text test h = by_any (is_any (sign_of text) (signed text)) refl (vers
     by_any false e (Some v) f g =
         let version = version_text_some (without_star (signed text)) v f in
         let split = star_split (signed text) in
-        let whole : text ≡ behind_sign (sign_of text) (ended split.0 v) = sign_split text ∙ ap (behind_sign (sign_of text)) (split.1 ∙ ap (ended split.0) version.1) in
+        let whole : text ≡ behind_sign (sign_of text) (ended split.0 v) =
+        sign_split text ∙ ap (behind_sign (sign_of text)) (split.1 ∙ ap (ended split.0) version.1) in
         let found : test_with (sign_of text) (has_star split.0) v ≡ Some test = sym (ap (λ s. test_with (sign_of text) s v) split.2) ∙ g in
         subst (λ t. IsTest t test) (sym whole) (formed (sign_of text) split.0 v test (subst IsFaultless version.1 version.0) found)
 
@@ -414,7 +441,8 @@ pub test_body : (text : List ℕ) (test : Test) → test_of text ≡ Some test �
 test_body text test h = by_any (is_any (sign_of text) (signed text)) refl (version_text (without_star (signed text))) refl h
   where
     by_any : (k : Bool) → is_any (sign_of text) (signed text) ≡ k → (o : Option (List ℕ)) → version_text (without_star (signed text)) ≡ o
-        → (if k then Some Any else option_and_then (test_with (sign_of text) (ends_with star (signed text))) o) ≡ Some test → IsBody (signed text)
+        → (if k then Some Any else option_and_then (test_with (sign_of text) (ends_with star (signed text))) o) ≡ Some test
+        → IsBody (signed text)
     by_any true e o f g = subst IsBody (sym (any_is (sign_of text) (signed text) e).1) (record { some = lit< tt; chars = refl })
     by_any false e None f g = absurd cc
     by_any false e (Some v) f g =
@@ -435,5 +463,6 @@ behind_chars Near w h = h
 pub test_chars : (text : List ℕ) (test : Test) → test_of text ≡ Some test → list_all is_test_char text ≡ true
 test_chars text test h =
     let more : list_all is_test_char (signed text) ≡ true = all_more is_beside is_test_char
-    (λ b k. ap (λ q. q || (b == equals || b == less || b == greater || b == exclamation || b == tilde)) k) (signed text) (test_body text test h).chars in
+    (λ b k. ap (λ q. q || (b == equals || b == less || b == greater || b == exclamation || b == tilde)) k) (signed text)
+    (test_body text test h).chars in
     ap (list_all is_test_char) (sign_split text) ∙ behind_chars (sign_of text) (signed text) more

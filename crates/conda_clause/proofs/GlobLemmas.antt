@@ -97,7 +97,8 @@ pub at_char : (whole more : Bool) (c b : ℕ) (p bs : List ℕ) → c ≢ 42 →
 at_char whole more c b p bs h k e =
     e ∙ ap (λ q. q (b ∷ bs) || more) (glob_behind c p h) ∙ ap (λ q. (q && glob_matches p bs) || more) (same b c k)
 
-pub at_char_last : (c b : ℕ) (p bs : List ℕ) → c ≢ 42 → some_end (glob_matches (c ∷ p)) (b ∷ bs) ≡ true → some_end (glob_matches p) bs ≡ true
+pub at_char_last : (c b : ℕ) (p bs : List ℕ) → c ≢ 42 → some_end (glob_matches (c ∷ p)) (b ∷ bs) ≡ true
+    → some_end (glob_matches p) bs ≡ true
 at_char_last c b p bs h k = some_end_behind c b (glob_matches p) bs (sym (ap (λ q. some_end q (b ∷ bs)) (glob_behind c p h)) ∙ k)
 
 pub other_char : (c b : ℕ) (p bs : List ℕ) → c ≢ 42 → b ≢ c → glob_matches (c ∷ p) (b ∷ bs) ≡ false
@@ -119,9 +120,11 @@ product_falls s t u v h k =
     omega (arith, e)
 
 pub star_falls : (behind rest left taken pattern text : ℕ) → suc rest ≤ behind → left ≤ text → rest ≤ pattern
-    → rest * ((text + 1) * (pattern + 1)) + left * (pattern + 1) + rest < behind * ((text + 1) * (pattern + 1)) + taken * (pattern + 1) + suc rest
+    → rest * ((text + 1) * (pattern + 1)) + left * (pattern + 1) + rest < behind * ((text + 1) * (pattern + 1)) + taken *
+    (pattern + 1) + suc rest
 star_falls behind rest left taken pattern text h k l =
-    let inner : left * (pattern + 1) + rest < (text + 1) * (pattern + 1) = product_falls left (text + 1) rest (pattern + 1) (omega arith) (omega arith) in
+    let inner : left * (pattern + 1) + rest < (text + 1) * (pattern + 1) =
+    product_falls left (text + 1) rest (pattern + 1) (omega arith) (omega arith) in
     let outer : rest * ((text + 1) * (pattern + 1)) + (left * (pattern + 1) + rest) < behind * ((text + 1) * (pattern + 1))
     = product_falls rest behind (left * (pattern + 1) + rest) ((text + 1) * (pattern + 1)) h inner in
     omega (arith, outer)

@@ -117,7 +117,8 @@ atom_nesting a (part p) room h k = omega arith
 atom_nesting a (either p more) room h k = omega arith
 
 goes_and : (room : ℕ) (ts : List Token) → IsTree room ts → Goes room (And ∷ ts)
-goes_and room ts is a le = (with_atom a is.0, ap (λ us. tree_tokens a ++ And ∷ us) is.1 ∙ atom_tokens a is.0, atom_nesting a is.0 room le is.2)
+goes_and room ts is a le =
+    (with_atom a is.0, ap (λ us. tree_tokens a ++ And ∷ us) is.1 ∙ atom_tokens a is.0, atom_nesting a is.0 room le is.2)
 
 found_test : (depth room : ℕ) (x : tests.Test) (ts : List Token) → Found Joint depth room ts → Found Atom depth room (Test x ∷ ts)
 found_test depth room x ts f =
@@ -129,7 +130,8 @@ found_test depth room x ts f =
       is_back = f.is_back;
     }
 
-found_joint : (depth room : ℕ) (t : Token) (ts : List Token) → ((front : List Token) → IsTree room front → Goes room (t ∷ front)) → Found Atom depth room ts → Found Joint depth room (t ∷ ts)
+found_joint : (depth room : ℕ) (t : Token) (ts : List Token) → ((front : List Token) → IsTree room front → Goes room (t ∷ front))
+    → Found Atom depth room ts → Found Joint depth room (t ∷ ts)
 found_joint depth room t ts goes f =
     record {
       front = t ∷ f.front;
@@ -154,7 +156,8 @@ found_open depth room ts f =
       back = g.back;
       whole =
           ap (λ xs. Open ∷ xs)
-          (f.whole ∙ ap (λ xs. xs ++ f.back) f.is_front.1 ∙ ap (λ xs. tree_tokens inside ++ xs) (f.is_back.1 ∙ ap (λ xs. Close ∷ xs) g.whole)
+          (f.whole ∙ ap (λ xs. xs ++ f.back) f.is_front.1
+          ∙ ap (λ xs. tree_tokens inside ++ xs) (f.is_back.1 ∙ ap (λ xs. Close ∷ xs) g.whole)
           ∙ sym (append_assoc (tree_tokens inside) (Close ∷ []) (g.front ++ g.back)))
           ∙ sym (append_assoc all g.front g.back);
       is_front = g.is_front (parens inside) (omega (arith, f.is_front.2));
@@ -222,7 +225,8 @@ chosen : (k : Bool) (state other : Wanted × ℕ) (why : SpecWhy) → (if k then
 chosen true state other why h = cc
 chosen false state other why h = absurd cc
 
-step_deeper : (wanted : Wanted) (depth : ℕ) (t : Token) (state : Wanted × ℕ) → step wanted depth (Some t) ≡ Ok state → state.1 ≡ deeper depth t
+step_deeper : (wanted : Wanted) (depth : ℕ) (t : Token) (state : Wanted × ℕ) → step wanted depth (Some t) ≡ Ok state
+    → state.1 ≡ deeper depth t
 step_deeper Atom depth Open state h = sym (ap (λ s. s.1) (chosen (nat_lt depth 32) (Atom, depth + 1) state Paren h))
 step_deeper Atom depth Close state h = by_open (nat_lt 0 depth) h
   where
@@ -238,26 +242,31 @@ step_deeper Joint depth And state h = cc
 step_deeper Joint depth Or state h = cc
 step_deeper Joint depth (Test t) state h = absurd cc
 
-no_step : (wanted : Wanted) (depth at : ℕ) (next : Wanted → ℕ → Option (ℕ × SpecWhy)) → after (step wanted depth None) next (λ why. Some (at, why)) ≡ None → ⊥
+no_step : (wanted : Wanted) (depth at : ℕ) (next : Wanted → ℕ → Option (ℕ × SpecWhy))
+    → after (step wanted depth None) next (λ why. Some (at, why)) ≡ None → ⊥
 no_step Atom depth at next h = cc
 no_step Joint depth at next h = cc
 
 abbrev toks : List (List ℕ) → List Token
 toks ps = filter_map token_of ps
 
-faultless_read : (ps : List (List ℕ)) (wanted : Wanted) (depth at : ℕ) → fault_from wanted depth at ps ≡ None → depth_behind depth (toks ps) ≡ 0
+faultless_read : (ps : List (List ℕ)) (wanted : Wanted) (depth at : ℕ) → fault_from wanted depth at ps ≡ None
+    → depth_behind depth (toks ps) ≡ 0
     → runs wanted depth (toks ps) ≡ true
 faultless_read [] Atom depth at h k = absurd cc
 faultless_read [] Joint depth at h k = ap (λ d. d == 0) k
 faultless_read (p ∷ ps) wanted depth at h k = by_token (faultless_read ps) (token_of p) h k
   where
     by_step : (t : Token) → ((w : Wanted) (d a : ℕ) → fault_from w d a ps ≡ None → depth_behind d (toks ps) ≡ 0 → runs w d (toks ps) ≡ true)
-        → (r : Result (Wanted × ℕ) SpecWhy) → step wanted depth (Some t) ≡ r → after r (λ w d. fault_from w d (at + length p) ps) (λ why. Some (at, why)) ≡ None
+        → (r : Result (Wanted × ℕ) SpecWhy) → step wanted depth (Some t) ≡ r
+        → after r (λ w d. fault_from w d (at + length p) ps) (λ why. Some (at, why)) ≡ None
         → depth_behind (deeper depth t) (toks ps) ≡ 0 → after r (λ w d. runs w d (toks ps)) (λ why. false) ≡ true
-    by_step t ih (Ok state) e f g = ih state.0 state.1 (at + length p) f (ap (λ d. depth_behind d (toks ps)) (step_deeper wanted depth t state e) ∙ g)
+    by_step t ih (Ok state) e f g =
+        ih state.0 state.1 (at + length p) f (ap (λ d. depth_behind d (toks ps)) (step_deeper wanted depth t state e) ∙ g)
     by_step t ih (Err why) e f g = absurd cc
 
-    by_token : ((w : Wanted) (d a : ℕ) → fault_from w d a ps ≡ None → depth_behind d (toks ps) ≡ 0 → runs w d (toks ps) ≡ true) → (o : Option Token)
+    by_token : ((w : Wanted) (d a : ℕ) → fault_from w d a ps ≡ None → depth_behind d (toks ps) ≡ 0 → runs w d (toks ps) ≡ true)
+        → (o : Option Token)
         → after (step wanted depth o) (λ w d. fault_from w d (at + length p) ps) (λ why. Some (at, why)) ≡ None
         → depth_behind depth (cons_option o (toks ps)) ≡ 0 → runs wanted depth (cons_option o (toks ps)) ≡ true
     by_token ih None f g = absurd (no_step wanted depth at (λ w d. fault_from w d (at + length p) ps) f)
@@ -270,17 +279,22 @@ read_faultless [] Joint depth at h k = (refl, test_equal depth 0 k)
 read_faultless (p ∷ ps) wanted depth at h k = by_token (read_faultless ps) (token_of p) h k
   where
     by_step : (t : Token)
-        → ((w : Wanted) (d a : ℕ) → list_all is_token ps ≡ true → runs w d (toks ps) ≡ true → (fault_from w d a ps ≡ None) × (depth_behind d (toks ps) ≡ 0))
-        → (r : Result (Wanted × ℕ) SpecWhy) → step wanted depth (Some t) ≡ r → list_all is_token ps ≡ true → after r (λ w d. runs w d (toks ps)) (λ why. false) ≡ true
-        → (after r (λ w d. fault_from w d (at + length p) ps) (λ why. Some (at, why)) ≡ None) × (depth_behind (deeper depth t) (toks ps) ≡ 0)
+        → ((w : Wanted) (d a : ℕ) → list_all is_token ps ≡ true → runs w d (toks ps) ≡ true
+        → (fault_from w d a ps ≡ None) × (depth_behind d (toks ps) ≡ 0))
+        → (r : Result (Wanted × ℕ) SpecWhy) → step wanted depth (Some t) ≡ r → list_all is_token ps ≡ true
+        → after r (λ w d. runs w d (toks ps)) (λ why. false) ≡ true
+        → (after r (λ w d. fault_from w d (at + length p) ps) (λ why. Some (at, why)) ≡ None)
+        × (depth_behind (deeper depth t) (toks ps) ≡ 0)
     by_step t ih (Ok state) e f g =
         let rest = ih state.0 state.1 (at + length p) f g in
         (rest.0, sym (ap (λ d. depth_behind d (toks ps)) (step_deeper wanted depth t state e)) ∙ rest.1)
     by_step t ih (Err why) e f g = absurd cc
 
-    by_token : ((w : Wanted) (d a : ℕ) → list_all is_token ps ≡ true → runs w d (toks ps) ≡ true → (fault_from w d a ps ≡ None) × (depth_behind d (toks ps) ≡ 0))
+    by_token : ((w : Wanted) (d a : ℕ) → list_all is_token ps ≡ true → runs w d (toks ps) ≡ true
+        → (fault_from w d a ps ≡ None) × (depth_behind d (toks ps) ≡ 0))
         → (o : Option Token) → (is_some o && list_all is_token ps) ≡ true → runs wanted depth (cons_option o (toks ps)) ≡ true
-        → (after (step wanted depth o) (λ w d. fault_from w d (at + length p) ps) (λ why. Some (at, why)) ≡ None) × (depth_behind depth (cons_option o (toks ps)) ≡ 0)
+        → (after (step wanted depth o) (λ w d. fault_from w d (at + length p) ps) (λ why. Some (at, why)) ≡ None)
+        × (depth_behind depth (cons_option o (toks ps)) ≡ 0)
     by_token ih None f g = absurd cc
     by_token ih (Some t) f g = by_step t ih (step wanted depth (Some t)) refl f g
 
@@ -312,7 +326,9 @@ depth_step depth c o false false none e = omega arith
 
 text_depth_is : (bs : List ℕ) (depth : ℕ) → text_depth depth bs ≡ depth - closers bs + opens bs
 text_depth_is [] depth = omega arith
-text_depth_is (b ∷ bs) depth = text_depth_is bs (char_depth depth b) ∙ depth_step depth (closers bs) (opens bs) (b == open_paren) (b == close_paren) (closers bs == 0) refl
+text_depth_is (b ∷ bs) depth =
+    text_depth_is bs (char_depth depth b)
+    ∙ depth_step depth (closers bs) (opens bs) (b == open_paren) (b == close_paren) (closers bs == 0) refl
 
 none_open : (bs : List ℕ) (at : ℕ) → unclosed at bs ≡ None → opens bs ≡ 0
 none_open [] at h = refl
@@ -356,7 +372,8 @@ token_depth (Test x) p depth h = free_depth p depth (test_free p x h)
 spelled_depth : (ts : List Token) (text : List ℕ) (depth : ℕ) → Spells ts text → text_depth depth text ≡ depth_behind depth ts
 spelled_depth [] text depth h = ap (text_depth depth) h
 spelled_depth (t ∷ ts) text depth h =
-    ap (text_depth depth) h.2 ∙ depth_append h.0 h.1 depth ∙ ap (λ d. text_depth d h.1) (token_depth t h.0 depth h.3) ∙ spelled_depth ts h.1 (deeper depth t) h.4
+    ap (text_depth depth) h.2 ∙ depth_append h.0 h.1 depth ∙ ap (λ d. text_depth d h.1) (token_depth t h.0 depth h.3)
+    ∙ spelled_depth ts h.1 (deeper depth t) h.4
 
 -- Behind the tokens of a text as many parentheses are open as are never closed.
 open_behind : (text : List ℕ) → list_all is_token (pieces text) ≡ true → depth_behind 0 (tokens text) ≡ opens text

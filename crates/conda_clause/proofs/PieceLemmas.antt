@@ -74,27 +74,34 @@ pub record IsCut (left piece rest : List ℕ) : Type 0 where
   pub lengths : length piece + length rest ≡ length left
   pub shorter : length rest < length left
 
-pub cut_at : (left piece rest : List ℕ) (len : ℕ) → 0 < length left → len ≡ piece_len left → 0 < len → len ≤ length left → piece ≡ take len left → rest ≡ drop len left
+pub cut_at : (left piece rest : List ℕ) (len : ℕ) → 0 < length left → len ≡ piece_len left → 0 < len → len ≤ length left
+    → piece ≡ take len left → rest ≡ drop len left
     → IsCut left piece rest
 cut_at left piece rest len some is_len more inside is_piece is_rest =
     let front : length piece ≡ len = ap length is_piece ∙ length-take-le len left inside in
     let back : length rest ≡ length left - len = ap length is_rest ∙ length-drop len left in
     record {
-      whole = pieces_first left some ∙ ap (λ n. take n left ∷ pieces (drop n left)) (sym is_len) ∙ ap (λ p. p ∷ pieces (drop len left)) (sym is_piece)
+      whole =
+          pieces_first left some ∙ ap (λ n. take n left ∷ pieces (drop n left)) (sym is_len)
+          ∙ ap (λ p. p ∷ pieces (drop len left)) (sym is_piece)
           ∙ ap (λ r. piece ∷ pieces r) (sym is_rest);
       lengths = omega (arith, front, back);
       shorter = omega (arith, back);
     }
 
-pub reads_on : (wanted next : Wanted) (depth deep at : ℕ) (left piece rest : List ℕ) → IsCut left piece rest → Ok (next, deep) ≡ step wanted depth (token_of piece)
+pub reads_on : (wanted next : Wanted) (depth deep at : ℕ) (left piece rest : List ℕ) → IsCut left piece rest
+    → Ok (next, deep) ≡ step wanted depth (token_of piece)
     → fault_from next deep (at + length piece) (pieces rest) ≡ fault_from wanted depth at (pieces left)
 reads_on wanted next depth deep at left piece rest cut e =
-    ap (λ s. after s (λ n d. fault_from n d (at + length piece) (pieces rest)) (λ why. Some (at, why))) e ∙ sym (ap (fault_from wanted depth at) cut.whole)
+    ap (λ s. after s (λ n d. fault_from n d (at + length piece) (pieces rest)) (λ why. Some (at, why))) e
+    ∙ sym (ap (fault_from wanted depth at) cut.whole)
 
-pub stops : (wanted : Wanted) (depth at : ℕ) (why : SpecWhy) (left piece rest : List ℕ) → IsCut left piece rest → Err why ≡ step wanted depth (token_of piece)
+pub stops : (wanted : Wanted) (depth at : ℕ) (why : SpecWhy) (left piece rest : List ℕ) → IsCut left piece rest
+    → Err why ≡ step wanted depth (token_of piece)
     → Some (at, why) ≡ fault_from wanted depth at (pieces left)
 stops wanted depth at why left piece rest cut e =
-    ap (λ s. after s (λ n d. fault_from n d (at + length piece) (pieces rest)) (λ y. Some (at, y))) e ∙ sym (ap (fault_from wanted depth at) cut.whole)
+    ap (λ s. after s (λ n d. fault_from n d (at + length piece) (pieces rest)) (λ y. Some (at, y))) e
+    ∙ sym (ap (fault_from wanted depth at) cut.whole)
 
 cons_onto : (token : Option Token) (made rest : List Token) → (made ++ cons_option token []) ++ rest ≡ made ++ cons_option token rest
 cons_onto None made rest = ap (λ m. m ++ rest) (append-nil made)

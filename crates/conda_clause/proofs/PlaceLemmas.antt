@@ -31,7 +31,8 @@ bare_marks xs h = ap (kept_runs None 0) (bare_split xs h) ∙ only xs
 pub kept_bare : (xs : List ℕ) → list_all no_space xs ≡ true → kept xs ≡ xs
 kept_bare xs h = ap (map (λ m. m.1)) (bare_marks xs h) ∙ marks_text 0 xs
 
-place_at : (at : ℕ) (xs : List ℕ) (i end : ℕ) → i ≤ length xs → end ≡ at + length xs → unwrap_or (slice_get (map (λ m. m.0) (chars_at at xs)) i) end ≡ at + i
+place_at : (at : ℕ) (xs : List ℕ) (i end : ℕ) → i ≤ length xs → end ≡ at + length xs
+    → unwrap_or (slice_get (map (λ m. m.0) (chars_at at xs)) i) end ≡ at + i
 place_at at [] i end h e = omega arith
 place_at at (x ∷ xs) zero end h e = omega arith
 place_at at (x ∷ xs) (suc i) end h e = place_at (at + 1) xs i end (omega arith) (omega arith) ∙ omega arith
@@ -39,7 +40,8 @@ place_at at (x ∷ xs) (suc i) end h e = place_at (at + 1) xs i end (omega arith
 -- each character stays where it stood
 pub places_bare : (xs : List ℕ) → list_all no_space xs ≡ true → (i : ℕ) → i ≤ length xs → place_of xs i ≡ i
 places_bare xs h i inside =
-    ap (λ ms. unwrap_or (slice_get (map (λ m. m.0) ms) i) (length xs)) (bare_marks xs h) ∙ place_at 0 xs i (length xs) inside (omega arith) ∙ omega arith
+    ap (λ ms. unwrap_or (slice_get (map (λ m. m.0) ms) i) (length xs)) (bare_marks xs h) ∙ place_at 0 xs i (length xs) inside (omega arith)
+    ∙ omega arith
 
 -- No place lies behind the end.
 
@@ -88,7 +90,8 @@ within_marks n at last (x ∷ xs) h = by_gap (has_gap last x)
 within_runs : (n at : ℕ) (last : Option ℕ) (runs : List (List ℕ)) → at + total runs ≤ n + 1 → AreWithin n (kept_runs last at runs)
 within_runs n at last [] h = λ i end e. e
 within_runs n at last (run ∷ runs) h =
-    within_append n (run_chars last at run) (kept_runs (last_of last run) (at + length run + 1) runs) (within_marks n at last run (omega arith))
+    within_append n (run_chars last at run) (kept_runs (last_of last run) (at + length run + 1) runs)
+    (within_marks n at last run (omega arith))
     (within_runs n (at + length run + 1) (last_of last run) runs (omega arith))
 
 pub place_inside : (text : List ℕ) (i : ℕ) → place_of text i ≤ length text

@@ -1,5 +1,5 @@
 -- The characters that stay are those that the places of the text say.
-use Rattle.std.proofs.Common.{◌≡◌, ◌≢◌, ◌↔◌, ◌⊎◌, inl, inr, ℕ, zero, suc, ◌+◌, ◌-◌, ◌<◌, ◌≤◌, Bool, true, false, not, List, [], ◌∷◌, ◌++◌, length, map, Option, None, Some, refl, sym, ap, subst, ◌∙◌, arith, append_assoc, cond, length-append, true≢false}
+use Rattle.std.proofs.Common.{◌≡◌, ◌≢◌, ◌⊎◌, inl, inr, ℕ, zero, suc, ◌+◌, ◌-◌, ◌<◌, ◌≤◌, Bool, true, false, not, List, [], ◌∷◌, ◌++◌, length, map, Option, None, Some, refl, sym, ap, subst, ◌∙◌, arith, append_assoc, cond, length-append, true≢false}
 use Rattle.std.proofs.lemmas.Bool.Decides.{nat_tests}
 use Rattle.std.proofs.lemmas.List.Folds.{list_all-append}
 use Rattle.std.specs.Prelude.{if◌then◌else◌, ◌==◌, ◌&&◌, ◌||◌, codes, Contains, slice_get, slice_index}
@@ -7,7 +7,7 @@ use Rattle.std.specs.List.{AllByRecursion, list_all, onto_first, slice_split}
 use Rattle.std.specs.List.Sorted.{IsStrictlyIncreasing}
 use Rattle.std.specs.Option.{option_or}
 use Rattle.conda_base.specs.Texts.{is_byte}
-use Rattle.conda_clause.specs.Kept.{chars_at, drops_behind, has_gap, is_joint, kept, kept_chars, kept_runs, last_of, places, run_chars}
+use Rattle.conda_clause.specs.Kept.{chars_at, drops_behind, has_gap, is_joint, kept, kept_chars, kept_runs, last_of, places}
 use Rattle.conda_clause.specs.Spaces.{IsGap, IsKept, IsSolid, is_one_of}
 use Rattle.conda_clause.proofs.KeptLemmas.{is_space}
 use Rattle.conda_clause.proofs.TestLemmas.{and_both, and_left, and_right, test_equal}
@@ -89,7 +89,8 @@ walk_run last at (b ∷ bs) = by_space (b == 32) (walk_run last (at + 1) bs) (wa
 
     by_space : (k : Bool) → walk last (at + 1) bs ≡ from_run last (at + 1) (split bs)
         → walk (Some b) (at + 1) bs ≡ from_run (Some b) (at + 1) (split bs)
-        → (if k then (if parts last bs then (at, 32) ∷ walk last (at + 1) bs else walk last (at + 1) bs) else (at, b) ∷ walk (Some b) (at + 1) bs)
+        → (if k then (if parts last bs then (at, 32) ∷ walk last (at + 1) bs else walk last (at + 1) bs) else (at, b) ∷ walk (Some b)
+        (at + 1) bs)
         ≡ from_run last at (cond k ([] ∷ split bs) (onto_first b (split bs)))
     by_space true same next =
         ap (λ w. if parts last bs then (at, 32) ∷ w else w) same ∙ gap_run last at bs ∙ ap (λ n. kept_runs last n (split bs)) none
@@ -122,7 +123,8 @@ walk_above last at [] = tt
 walk_above last at (b ∷ bs) = by_space (b == 32) (parts last bs) (walk_above last (at + 1) bs) (walk_above (Some b) (at + 1) bs)
   where
     by_space : (k p : Bool) → Above (at + 1) (map place (walk last (at + 1) bs)) → Above (at + 1) (map place (walk (Some b) (at + 1) bs))
-        → Above at (map place (if k then (if p then (at, 32) ∷ walk last (at + 1) bs else walk last (at + 1) bs) else (at, b) ∷ walk (Some b) (at + 1) bs))
+        → Above at (map place
+        (if k then (if p then (at, 32) ∷ walk last (at + 1) bs else walk last (at + 1) bs) else (at, b) ∷ walk (Some b) (at + 1) bs))
     by_space true true same next = (omega arith, same)
     by_space true false same next = above_less at (at + 1) (map place (walk last (at + 1) bs)) (omega arith) same
     by_space false p same next = (omega arith, next)
@@ -166,12 +168,14 @@ has_above n i (x ∷ xs) h (inl e) = let first : n ≤ x = h.0 in omega arith
 has_above n i (x ∷ xs) h (inr k) = let first : n ≤ x = h.0 in let more : x + 1 ≤ i = has_above (x + 1) i xs h.1 k in omega arith
 
 -- ascending numbers with the same members are the same
-same_members : (m n : ℕ) (xs ys : List ℕ) → Above m xs → Above n ys → ((i : ℕ) → Has i xs → Has i ys) → ((i : ℕ) → Has i ys → Has i xs) → xs ≡ ys
+same_members : (m n : ℕ) (xs ys : List ℕ) → Above m xs → Above n ys → ((i : ℕ) → Has i xs → Has i ys) → ((i : ℕ) → Has i ys → Has i xs)
+    → xs ≡ ys
 same_members m n [] [] h k f g = refl
 same_members m n [] (y ∷ ys) h k f g = absurd (g y (inl refl))
 same_members m n (x ∷ xs) [] h k f g = absurd (f x (inl refl))
 same_members m n (x ∷ xs) (y ∷ ys) h k f g =
-    ap (λ z. z ∷ xs) first ∙ ap (λ zs. y ∷ zs) (same_members (x + 1) (y + 1) xs ys h.1 k.1 (λ i l. onward i l (f i (inr l))) (λ i l. backward i l (g i (inr l))))
+    ap (λ z. z ∷ xs) first
+    ∙ ap (λ zs. y ∷ zs) (same_members (x + 1) (y + 1) xs ys h.1 k.1 (λ i l. onward i l (f i (inr l))) (λ i l. backward i l (g i (inr l))))
   where
     first_above : (a : ℕ) (more : List ℕ) (i : ℕ) → Above (a + 1) more → Has i (a ∷ more) → a ≤ i
     first_above a more i l (inl e) = omega arith
@@ -205,7 +209,8 @@ behind_space front (Some last) b e h = (
   h.0,
   h.1 ++ b ∷ [],
   ap (λ t. t ++ b ∷ []) h.2 ∙ append_assoc h.0 (last ∷ h.1) (b ∷ []),
-  list_all-append (is_byte 32) h.1 (b ∷ []) ∙ and_both (list_all (is_byte 32) h.1) (list_all (is_byte 32) (b ∷ [])) h.3 (ap (λ c. c == 32 && true) e),
+  list_all-append (is_byte 32) h.1 (b ∷ [])
+      ∙ and_both (list_all (is_byte 32) h.1) (list_all (is_byte 32) (b ∷ [])) h.3 (ap (λ c. c == 32 && true) e),
   h.4,
 )
 
@@ -224,7 +229,8 @@ keeps_behind b h k = grind (arith, nat_tests)
 keeps_before : (b : ℕ) → (b == 32) ≡ false → is_joint b ≡ false → is_one_of (codes " ,|") b ≡ false
 keeps_before b h k = grind (arith, nat_tests)
 
-gap_of : (whole front : List ℕ) (last : Option ℕ) (at b : ℕ) (bs : List ℕ) → whole ≡ front ++ b ∷ bs → at ≡ length front → b ≡ 32 → Behind front last
+gap_of : (whole front : List ℕ) (last : Option ℕ) (at b : ℕ) (bs : List ℕ) → whole ≡ front ++ b ∷ bs → at ≡ length front → b ≡ 32
+    → Behind front last
     → parts last bs ≡ true → IsGap whole at
 gap_of whole front last at b [] is_whole is_at is_space h p = absurd (true≢false (sym p))
 gap_of whole front None at b (c ∷ cs) is_whole is_at is_space h p = absurd (true≢false (sym (and_right (not (c == 32)) false p)))
@@ -257,12 +263,14 @@ record IsPlaced (whole : List ℕ) (m : ℕ × ℕ) : Type 0 where
 unlike_space : (b : ℕ) → (b == 32) ≡ false → b ≢ 32
 unlike_space b h e = true≢false (sym (ap (λ c. c == 32) e) ∙ h)
 
-walk_placed : (whole front : List ℕ) (last : Option ℕ) (at : ℕ) (text : List ℕ) → whole ≡ front ++ text → at ≡ length front → Behind front last
+walk_placed : (whole front : List ℕ) (last : Option ℕ) (at : ℕ) (text : List ℕ) → whole ≡ front ++ text → at ≡ length front
+    → Behind front last
     → AllByRecursion (IsPlaced whole) (walk last at text)
 walk_placed whole front last at [] is_whole is_at h = tt
 walk_placed whole front last at (b ∷ bs) is_whole is_at h =
     by_space (b == 32) refl (parts last bs) refl (λ l behind.
-    walk_placed whole (front ++ b ∷ []) l (at + 1) bs (is_whole ∙ sym (append_assoc front (b ∷ []) bs)) (omega (arith, length-append front (b ∷ []))) behind)
+    walk_placed whole (front ++ b ∷ []) l (at + 1) bs (is_whole ∙ sym (append_assoc front (b ∷ []) bs))
+    (omega (arith, length-append front (b ∷ []))) behind)
   where
     stands : slice_get whole at ≡ Some b
     stands = ap (slice_get whole) is_at ∙ ap (λ t. slice_get t (length front)) is_whole ∙ get_at front b bs
@@ -272,17 +280,24 @@ walk_placed whole front last at (b ∷ bs) is_whole is_at h =
         → AllByRecursion (IsPlaced whole)
         (if k then (if p then (at, 32) ∷ walk last (at + 1) bs else walk last (at + 1) bs) else (at, b) ∷ walk (Some b) (at + 1) bs)
     by_space true e true g rest =
-        let space = test_equal b 32 e in
-        (record { stood = stands ∙ ap Some space; stays = inr (gap_of whole front last at b bs is_whole is_at space h g) }, rest last (behind_space front last b space h))
+        let space = test_equal b 32 e in (
+          record { stood = stands ∙ ap Some space; stays = inr (gap_of whole front last at b bs is_whole is_at space h g) },
+          rest last
+              (behind_space front last b space h),
+        )
     by_space true e false g rest = rest last (behind_space front last b (test_equal b 32 e) h)
     by_space false e p g rest =
-        let solid = unlike_space b e in (record { stood = stands; stays = inl (b, stands, solid) }, rest (Some b) (front, [], refl, refl, solid))
+        let solid =
+        unlike_space b e in (record { stood = stands; stays = inl (b, stands, solid) }, rest (Some b) (front, [], refl, refl, solid))
 
-placed_chars : (whole : List ℕ) (ms : List (ℕ × ℕ)) → AllByRecursion (IsPlaced whole) ms → map Some (map (λ m. m.1) ms) ≡ map (slice_get whole) (map place ms)
+placed_chars : (whole : List ℕ) (ms : List (ℕ × ℕ)) → AllByRecursion (IsPlaced whole) ms
+    → map Some (map (λ m. m.1) ms) ≡ map (slice_get whole) (map place ms)
 placed_chars whole [] h = refl
-placed_chars whole (m ∷ ms) h = ap (λ o. o ∷ map Some (map (λ m. m.1) ms)) (sym h.0.stood) ∙ ap (λ os. slice_get whole m.0 ∷ os) (placed_chars whole ms h.1)
+placed_chars whole (m ∷ ms) h =
+    ap (λ o. o ∷ map Some (map (λ m. m.1) ms)) (sym h.0.stood) ∙ ap (λ os. slice_get whole m.0 ∷ os) (placed_chars whole ms h.1)
 
-placed_stays : (whole : List ℕ) (ms : List (ℕ × ℕ)) (i : ℕ) → AllByRecursion (IsPlaced whole) ms → Has i (map place ms) → IsSolid whole i ⊎ IsGap whole i
+placed_stays : (whole : List ℕ) (ms : List (ℕ × ℕ)) (i : ℕ) → AllByRecursion (IsPlaced whole) ms → Has i (map place ms)
+    → IsSolid whole i ⊎ IsGap whole i
 placed_stays whole [] i h k = absurd k
 placed_stays whole (m ∷ ms) i h (inl e) = subst (λ j. IsSolid whole j ⊎ IsGap whole j) (sym e) h.0.stays
 placed_stays whole (m ∷ ms) i h (inr k) = placed_stays whole ms i h.1 k
@@ -294,12 +309,14 @@ behind_in : (i : ℕ) (last : Option ℕ) (at b : ℕ) (bs : List ℕ) → ((l :
 behind_in i last at b bs f = by_space (b == 32) (parts last bs)
   where
     by_space : (k p : Bool)
-        → Has i (map place (if k then (if p then (at, 32) ∷ walk last (at + 1) bs else walk last (at + 1) bs) else (at, b) ∷ walk (Some b) (at + 1) bs))
+        → Has i (map place (if k then (if p then (at, 32) ∷ walk last (at + 1) bs else walk last (at + 1) bs) else (at, b) ∷ walk (Some b)
+        (at + 1) bs))
     by_space true true = inr (f last)
     by_space true false = f last
     by_space false p = inr (f (Some b))
 
-solid_in : (last : Option ℕ) (at : ℕ) (text : List ℕ) (k b : ℕ) → slice_get text k ≡ Some b → b ≢ 32 → Has (at + k) (map place (walk last at text))
+solid_in : (last : Option ℕ) (at : ℕ) (text : List ℕ) (k b : ℕ) → slice_get text k ≡ Some b → b ≢ 32
+    → Has (at + k) (map place (walk last at text))
 solid_in last at [] k b h n = cc
 solid_in last at (c ∷ cs) zero b h n = by_space (c == 32) refl
   where
@@ -310,7 +327,9 @@ solid_in last at (c ∷ cs) zero b h n = by_space (c == 32) refl
     here = omega arith
 
     by_space : (k : Bool) → (c == 32) ≡ k
-        → Has (at + 0) (map place (if k then (if parts last cs then (at, 32) ∷ walk last (at + 1) cs else walk last (at + 1) cs) else (at, c) ∷ walk (Some c) (at + 1) cs))
+        → Has (at + 0) (map place
+        (if k then (if parts last cs then (at, 32) ∷ walk last (at + 1) cs else walk last (at + 1) cs) else (at, c) ∷ walk (Some c)
+        (at + 1) cs))
     by_space true e = absurd (n (sym same ∙ test_equal c 32 e))
     by_space false e = inl here
 solid_in last at (c ∷ cs) (suc k) b h n =
@@ -321,14 +340,18 @@ solid_in last at (c ∷ cs) (suc k) b h n =
 solid_step : (i : ℕ) (last : Option ℕ) (at b : ℕ) (bs : List ℕ) → (b == 32) ≡ false → Has i (map place (walk (Some b) (at + 1) bs))
     → Has i (map place (walk last at (b ∷ bs)))
 solid_step i last at b bs e h =
-    subst (λ k. Has i (map place (if k then (if parts last bs then (at, 32) ∷ walk last (at + 1) bs else walk last (at + 1) bs) else (at, b) ∷ walk (Some b) (at + 1) bs)))
+    subst (λ k. Has i (map place
+    (if k then (if parts last bs then (at, 32) ∷ walk last (at + 1) bs else walk last (at + 1) bs) else (at, b) ∷ walk (Some b)
+    (at + 1) bs)))
     (sym e) (inr h)
 
 -- behind a space
 space_step : (i : ℕ) (last : Option ℕ) (at b : ℕ) (bs : List ℕ) → (b == 32) ≡ true → Has i (map place (walk last (at + 1) bs))
     → Has i (map place (walk last at (b ∷ bs)))
 space_step i last at b bs e h =
-    subst (λ k. Has i (map place (if k then (if parts last bs then (at, 32) ∷ walk last (at + 1) bs else walk last (at + 1) bs) else (at, b) ∷ walk (Some b) (at + 1) bs)))
+    subst (λ k. Has i (map place
+    (if k then (if parts last bs then (at, 32) ∷ walk last (at + 1) bs else walk last (at + 1) bs) else (at, b) ∷ walk (Some b)
+    (at + 1) bs)))
     (sym e) (by_gap (parts last bs))
   where
     by_gap : (p : Bool) → Has i (map place (if p then (at, 32) ∷ walk last (at + 1) bs else walk last (at + 1) bs))
@@ -352,7 +375,8 @@ spaces_in : (at before : ℕ) (spaces : List ℕ) (behind : ℕ) (back : List �
     → is_one_of (codes " ,|<>=") before ≡ false → is_one_of (codes " ,|") behind ≡ false
     → Has (at + length spaces) (map place (walk (Some before) at (spaces ++ 32 ∷ behind ∷ back)))
 spaces_in at before [] behind back all f g =
-    subst (λ p. Has (at + 0) (map place (if p then (at, 32) ∷ walk (Some before) (at + 1) (behind ∷ back) else walk (Some before) (at + 1) (behind ∷ back))))
+    subst (λ p. Has (at + 0)
+    (map place (if p then (at, 32) ∷ walk (Some before) (at + 1) (behind ∷ back) else walk (Some before) (at + 1) (behind ∷ back))))
     (sym stays) (inl (omega arith))
   where
     stays : parts (Some before) (behind ∷ back) ≡ true
@@ -365,7 +389,8 @@ spaces_in at before (s ∷ ss) behind back all f g =
     (subst (λ i. Has i (map place (walk (Some before) (at + 1) (ss ++ 32 ∷ behind ∷ back)))) e
     (spaces_in (at + 1) before ss behind back (and_right (s == 32) (list_all (is_byte 32) ss) all) f g))
 
-gap_in : (last : Option ℕ) (at : ℕ) (front : List ℕ) (before : ℕ) (spaces : List ℕ) (behind : ℕ) (back : List ℕ) → list_all (is_byte 32) spaces ≡ true
+gap_in : (last : Option ℕ) (at : ℕ) (front : List ℕ) (before : ℕ) (spaces : List ℕ) (behind : ℕ) (back : List ℕ)
+    → list_all (is_byte 32) spaces ≡ true
     → is_one_of (codes " ,|<>=") before ≡ false → is_one_of (codes " ,|") behind ≡ false
     → Has (at + (length front + 1 + length spaces)) (map place (walk last at (front ++ before ∷ (spaces ++ 32 ∷ behind ∷ back))))
 gap_in last at [] before spaces behind back all f g =

@@ -48,9 +48,11 @@ one_piece b (c ∷ cs) h =
 pub free_token : (b : ℕ) (bs : List ℕ) → free b ≡ true → token_of (b ∷ bs) ≡ option_map token.Test (test_of (b ∷ bs))
 free_token b bs h =
     let found : Option Token = option_map token.Test (test_of (b ∷ bs)) in
-    ap (λ k. if k then Some token.Open else if b == close_paren then Some token.Close else if b == comma then Some token.And else if b == bar then Some token.Or else found)
+    ap (λ k. if k then Some token.Open else if b == close_paren then Some token.Close else if b == comma then Some token.And
+    else if b == bar then Some token.Or else found)
     (unlike free b open_paren h refl)
-    ∙ ap (λ k. if k then Some token.Close else if b == comma then Some token.And else if b == bar then Some token.Or else found) (unlike free b close_paren h refl)
+    ∙ ap (λ k. if k then Some token.Close else if b == comma then Some token.And else if b == bar then Some token.Or else found)
+    (unlike free b close_paren h refl)
     ∙ ap (λ k. if k then Some token.And else if b == bar then Some token.Or else found) (unlike free b comma h refl)
     ∙ ap (λ k. if k then Some token.Or else found) (unlike free b bar h refl)
 
@@ -62,7 +64,8 @@ pub record Means (text : List ℕ) (ts : List Token) : Type 0 where
 one_token : (text : List ℕ) (t : Test) → list_all free text ≡ true → test_of text ≡ Some t → Means text (token.Test t ∷ [])
 one_token [] t h e = absurd (true≢false (sym (ap is_some e)))
 one_token (b ∷ bs) t h e =
-    let is : token_of (b ∷ bs) ≡ Some (token.Test t) = free_token b bs (and_left (free b) (list_all free bs) h) ∙ ap (option_map token.Test) e in
+    let is : token_of (b ∷ bs) ≡ Some (token.Test t) =
+    free_token b bs (and_left (free b) (list_all free bs) h) ∙ ap (option_map token.Test) e in
     record {
       each = ap (list_all (λ piece. is_some (token_of piece))) (one_piece b bs h) ∙ ap (λ o. is_some o && true) is;
       tokens = ap (filter_map token_of) (one_piece b bs h) ∙ ap (λ o. cons_option o []) is;
@@ -83,14 +86,18 @@ pieces_some b bs = by_mark (is_mark b) (begins_test bs) (pieces bs)
     by_mark false true (p ∷ ps) = (b ∷ p, ps, refl)
     by_mark false false more = (b ∷ [], more, refl)
 
-onto_append : (b : ℕ) (bs : List ℕ) (more : List (List ℕ)) → begins_test bs ≡ true → onto_first b (pieces bs ++ more) ≡ onto_first b (pieces bs) ++ more
+onto_append : (b : ℕ) (bs : List ℕ) (more : List (List ℕ)) → begins_test bs ≡ true
+    → onto_first b (pieces bs ++ more) ≡ onto_first b (pieces bs) ++ more
 onto_append b [] more h = absurd (true≢false (sym h))
-onto_append b (c ∷ cs) more h = let some = pieces_some c cs in ap (λ ps. onto_first b (ps ++ more)) some.2 ∙ sym (ap (λ ps. onto_first b ps ++ more) some.2)
+onto_append b (c ∷ cs) more h =
+    let some = pieces_some c cs in ap (λ ps. onto_first b (ps ++ more)) some.2 ∙ sym (ap (λ ps. onto_first b ps ++ more) some.2)
 
 pieces_joint : (s : List ℕ) (m : ℕ) (t : List ℕ) → is_mark m ≡ true → pieces (s ++ m ∷ t) ≡ pieces s ++ (m ∷ []) ∷ pieces t
-pieces_joint [] m t h = ap (λ k. if k then (m ∷ []) ∷ pieces t else if begins_test t then onto_first m (pieces t) else (m ∷ []) ∷ pieces t) h
+pieces_joint [] m t h =
+    ap (λ k. if k then (m ∷ []) ∷ pieces t else if begins_test t then onto_first m (pieces t) else (m ∷ []) ∷ pieces t) h
 pieces_joint (b ∷ bs) m t h =
-    ap (λ k. if is_mark b then (b ∷ []) ∷ pieces (bs ++ m ∷ t) else if k then onto_first b (pieces (bs ++ m ∷ t)) else (b ∷ []) ∷ pieces (bs ++ m ∷ t)) (same bs)
+    ap (λ k. if is_mark b then (b ∷ []) ∷ pieces (bs ++ m ∷ t) else if k then onto_first b (pieces (bs ++ m ∷ t)) else (b ∷ []) ∷ pieces
+    (bs ++ m ∷ t)) (same bs)
     ∙ ap (λ ps. if is_mark b then (b ∷ []) ∷ ps else if begins_test bs then onto_first b ps else (b ∷ []) ∷ ps) (pieces_joint bs m t h)
     ∙ by_mark (is_mark b) (begins_test bs) refl
   where
@@ -102,21 +109,25 @@ pieces_joint (b ∷ bs) m t h =
     same (c ∷ cs) = refl
 
     by_mark : (k j : Bool) → begins_test bs ≡ j
-        → (if k then (b ∷ []) ∷ (pieces bs ++ (m ∷ []) ∷ pieces t) else if j then onto_first b (pieces bs ++ (m ∷ []) ∷ pieces t) else (b ∷ []) ∷ (pieces bs ++ (m ∷ []) ∷ pieces t))
+        → (if k then (b ∷ []) ∷ (pieces bs ++ (m ∷ []) ∷ pieces t) else if j then onto_first b (pieces bs ++ (m ∷ []) ∷ pieces t)
+        else (b ∷ []) ∷ (pieces bs ++ (m ∷ []) ∷ pieces t))
         ≡ (if k then (b ∷ []) ∷ pieces bs else if j then onto_first b (pieces bs) else (b ∷ []) ∷ pieces bs) ++ (m ∷ []) ∷ pieces t
     by_mark true j e = refl
     by_mark false true e = onto_append b bs ((m ∷ []) ∷ pieces t) e
     by_mark false false e = refl
 
-joint_means : (s : List ℕ) (m : ℕ) (t : List ℕ) (joint : Token) (ss ts : List Token) → is_mark m ≡ true → token_of (m ∷ []) ≡ Some joint → Means s ss → Means t ts
+joint_means : (s : List ℕ) (m : ℕ) (t : List ℕ) (joint : Token) (ss ts : List Token) → is_mark m ≡ true → token_of (m ∷ []) ≡ Some joint
+    → Means s ss → Means t ts
     → Means (s ++ m ∷ t) (ss ++ joint ∷ ts)
 joint_means s m t joint ss ts h e f g =
     let is : (ps : List (List ℕ)) → Bool = list_all (λ piece. is_some (token_of piece)) in
     record {
       each = ap is (pieces_joint s m t h) ∙ list_all-append (λ piece. is_some (token_of piece)) (pieces s) ((m ∷ []) ∷ pieces t)
-          ∙ and_both (is (pieces s)) (is ((m ∷ []) ∷ pieces t)) f.each (and_both (is_some (token_of (m ∷ []))) (is (pieces t)) (ap is_some e) g.each);
+          ∙ and_both (is (pieces s)) (is ((m ∷ []) ∷ pieces t)) f.each
+          (and_both (is_some (token_of (m ∷ []))) (is (pieces t)) (ap is_some e) g.each);
       tokens = ap (filter_map token_of) (pieces_joint s m t h) ∙ filter_map-append token_of (pieces s) ((m ∷ []) ∷ pieces t)
-          ∙ ap (λ ts'. ts' ++ filter_map token_of ((m ∷ []) ∷ pieces t)) f.tokens ∙ ap (λ o. ss ++ cons_option o (tokens t)) e ∙ ap (λ us. ss ++ joint ∷ us) g.tokens;
+          ∙ ap (λ ts'. ts' ++ filter_map token_of ((m ∷ []) ∷ pieces t)) f.tokens ∙ ap (λ o. ss ++ cons_option o (tokens t)) e
+          ∙ ap (λ us. ss ++ joint ∷ us) g.tokens;
     }
 
 nothing : Means [] []
@@ -127,11 +138,13 @@ pub writes_means : (law : NoDotEnd) {rank : Rank} (tree : Tree rank) (text : Lis
 writes_means law (part p) text h = writes_means law p text h
 writes_means law (either p more) text h =
     subst (λ t. Means t (tree_tokens p ++ token.Or ∷ tree_tokens more)) (sym h.2)
-    (joint_means h.0 bar h.1 token.Or (tree_tokens p) (tree_tokens more) refl refl (writes_means law p h.0 h.3) (writes_means law more h.1 h.4))
+    (joint_means h.0 bar h.1 token.Or (tree_tokens p) (tree_tokens more) refl refl (writes_means law p h.0 h.3)
+    (writes_means law more h.1 h.4))
 writes_means law (single a) text h = writes_means law a text h
 writes_means law (both a more) text h =
     subst (λ t. Means t (tree_tokens a ++ token.And ∷ tree_tokens more)) (sym h.2)
-    (joint_means h.0 comma h.1 token.And (tree_tokens a) (tree_tokens more) refl refl (writes_means law a h.0 h.3) (writes_means law more h.1 h.4))
+    (joint_means h.0 comma h.1 token.And (tree_tokens a) (tree_tokens more) refl refl (writes_means law a h.0 h.3)
+    (writes_means law more h.1 h.4))
 writes_means law (test t) text h = test_means text t (table_read law text t h)
 writes_means law (parens inside) text h =
     subst (λ t. Means t (token.Open ∷ tree_tokens inside ++ token.Close ∷ [])) (sym h.1)
@@ -153,22 +166,41 @@ abbrev pub Spells : List Token → List ℕ → Type 0
 Spells [] text = text ≡ []
 Spells (t ∷ ts) text = (p : List ℕ) × (rest : List ℕ) × (text ≡ p ++ rest) × IsToken t p × Spells ts rest
 
-spells_split : (ts us : List Token) (text : List ℕ) → Spells (ts ++ us) text → (front : List ℕ) × (back : List ℕ) × (text ≡ front ++ back) × Spells ts front × Spells us back
+spells_split : (ts us : List Token) (text : List ℕ) → Spells (ts ++ us) text
+    → (front : List ℕ) × (back : List ℕ) × (text ≡ front ++ back) × Spells ts front × Spells us back
 spells_split [] us text h = ([], text, refl, refl, h)
 spells_split (t ∷ ts) us text h =
-    let more = spells_split ts us h.1 h.4 in
-    (h.0 ++ more.0, more.1, h.2 ∙ ap (λ r. h.0 ++ r) more.2 ∙ sym (append_assoc h.0 more.0 more.1), (h.0, more.0, refl, h.3, more.3), more.4)
+    let more = spells_split ts us h.1 h.4 in (
+      h.0 ++ more.0,
+      more.1,
+      h.2 ∙ ap (λ r. h.0 ++ r) more.2
+          ∙ sym (append_assoc h.0 more.0 more.1),
+      (h.0, more.0, refl, h.3, more.3),
+      more.4,
+    )
 
 -- what the tokens of a tree spell writes the tree
 pub spells_writes : {rank : Rank} (tree : Tree rank) (text : List ℕ) → Spells (tree_tokens tree) text → Writes tree text
 spells_writes (part p) text h = spells_writes p text h
 spells_writes (either p more) text h =
-    let cut = spells_split (tree_tokens p) (token.Or ∷ tree_tokens more) text h in
-    (cut.0, cut.4.1, cut.2 ∙ ap (λ r. cut.0 ++ r) (cut.4.2 ∙ ap (λ q. q ++ cut.4.1) cut.4.3), spells_writes p cut.0 cut.3, spells_writes more cut.4.1 cut.4.4)
+    let cut = spells_split (tree_tokens p) (token.Or ∷ tree_tokens more) text h in (
+      cut.0,
+      cut.4.1,
+      cut.2
+          ∙ ap (λ r. cut.0 ++ r) (cut.4.2 ∙ ap (λ q. q ++ cut.4.1) cut.4.3),
+      spells_writes p cut.0 cut.3,
+      spells_writes more cut.4.1 cut.4.4,
+    )
 spells_writes (single a) text h = spells_writes a text h
 spells_writes (both a more) text h =
-    let cut = spells_split (tree_tokens a) (token.And ∷ tree_tokens more) text h in
-    (cut.0, cut.4.1, cut.2 ∙ ap (λ r. cut.0 ++ r) (cut.4.2 ∙ ap (λ q. q ++ cut.4.1) cut.4.3), spells_writes a cut.0 cut.3, spells_writes more cut.4.1 cut.4.4)
+    let cut = spells_split (tree_tokens a) (token.And ∷ tree_tokens more) text h in (
+      cut.0,
+      cut.4.1,
+      cut.2
+          ∙ ap (λ r. cut.0 ++ r) (cut.4.2 ∙ ap (λ q. q ++ cut.4.1) cut.4.3),
+      spells_writes a cut.0 cut.3,
+      spells_writes more cut.4.1 cut.4.4,
+    )
 spells_writes (test t) text h = subst (λ p. IsTest p t) (sym (h.2 ∙ ap (λ r. h.0 ++ r) h.4 ∙ append-nil h.0)) (read_table h.0 t h.3)
 spells_writes (parens inside) text h =
     let cut = spells_split (tree_tokens inside) (token.Close ∷ []) h.1 h.4 in
@@ -193,7 +225,8 @@ pieces_alone (b ∷ bs) = by_mark (is_mark b) refl (begins_test bs) (pieces bs) 
         → list_all is_alone (if k then (b ∷ []) ∷ ps else if j then onto_first b ps else (b ∷ []) ∷ ps) ≡ true
     by_mark true e j ps h = and_both (is_alone (b ∷ [])) (list_all is_alone ps) (ap (λ q. if q then true else true) e) h
     by_mark false e true [] h = and_both (is_alone (b ∷ [])) true (unmarked [] e) refl
-    by_mark false e true (p ∷ ps) h = and_both (is_alone (b ∷ p)) (list_all is_alone ps) (unmarked p e) (and_right (is_alone p) (list_all is_alone ps) h)
+    by_mark false e true (p ∷ ps) h =
+        and_both (is_alone (b ∷ p)) (list_all is_alone ps) (unmarked p e) (and_right (is_alone p) (list_all is_alone ps) h)
     by_mark false e false ps h = and_both (is_alone (b ∷ [])) (list_all is_alone ps) (unmarked [] e) h
 
 pieces_whole : (bs : List ℕ) → concat (pieces bs) ≡ bs
@@ -204,7 +237,8 @@ pieces_whole (b ∷ bs) = by_mark (is_mark b) (begins_test bs) ∙ ap (λ r. b �
     onto [] = refl
     onto (p ∷ ps) = refl
 
-    by_mark : (k j : Bool) → concat (if k then (b ∷ []) ∷ pieces bs else if j then onto_first b (pieces bs) else (b ∷ []) ∷ pieces bs) ≡ b ∷ concat (pieces bs)
+    by_mark : (k j : Bool)
+        → concat (if k then (b ∷ []) ∷ pieces bs else if j then onto_first b (pieces bs) else (b ∷ []) ∷ pieces bs) ≡ b ∷ concat (pieces bs)
     by_mark true j = refl
     by_mark false true = onto (pieces bs)
     by_mark false false = refl
@@ -212,7 +246,8 @@ pieces_whole (b ∷ bs) = by_mark (is_mark b) (begins_test bs) ∙ ap (λ r. b �
 mark_alone : (b : ℕ) (bs : List ℕ) (mark : ℕ) → is_alone (b ∷ bs) ≡ true → (b == mark) ≡ true → is_mark mark ≡ true → b ∷ bs ≡ mark ∷ []
 mark_alone b bs mark h e m =
     let same : b ≡ mark = test_equal b mark e in
-    let none : is_empty bs ≡ true = sym (ap (λ c. if is_mark c then is_empty bs else true) same ∙ ap (λ k. if k then is_empty bs else true) m) ∙ h in
+    let none : is_empty bs ≡ true =
+    sym (ap (λ c. if is_mark c then is_empty bs else true) same ∙ ap (λ k. if k then is_empty bs else true) m) ∙ h in
     ap (λ c. c ∷ bs) same ∙ ap (λ r. mark ∷ r) (empty bs none)
   where
     empty : (cs : List ℕ) → is_empty cs ≡ true → cs ≡ []
@@ -221,13 +256,16 @@ mark_alone b bs mark h e m =
 
 token_text : (p : List ℕ) (t : Token) → is_alone p ≡ true → token_of p ≡ Some t → IsToken t p
 token_text [] t h e = absurd cc
-token_text (b ∷ bs) t h e = by_marks (b == open_paren) (b == close_paren) (b == comma) (b == bar) refl refl refl refl (test_of (b ∷ bs)) refl e
+token_text (b ∷ bs) t h e =
+    by_marks (b == open_paren) (b == close_paren) (b == comma) (b == bar) refl refl refl refl (test_of (b ∷ bs)) refl e
   where
     given : (u : Token) → Some u ≡ Some t → IsToken u (b ∷ bs) → IsToken t (b ∷ bs)
     given u f is = let same : u ≡ t = cc in subst (λ v. IsToken v (b ∷ bs)) same is
 
-    by_marks : (i j k l : Bool) → (b == open_paren) ≡ i → (b == close_paren) ≡ j → (b == comma) ≡ k → (b == bar) ≡ l → (o : Option Test) → test_of (b ∷ bs) ≡ o
-        → (if i then Some token.Open else if j then Some token.Close else if k then Some token.And else if l then Some token.Or else option_map token.Test o) ≡ Some t
+    by_marks : (i j k l : Bool) → (b == open_paren) ≡ i → (b == close_paren) ≡ j → (b == comma) ≡ k → (b == bar) ≡ l → (o : Option Test)
+        → test_of (b ∷ bs) ≡ o
+        → (if i then Some token.Open else if j then Some token.Close else if k then Some token.And else if l then Some token.Or
+        else option_map token.Test o) ≡ Some t
         → IsToken t (b ∷ bs)
     by_marks true j k l ei ej ek el o eo f = given token.Open f (mark_alone b bs open_paren h ei refl)
     by_marks false true k l ei ej ek el o eo f = given token.Close f (mark_alone b bs close_paren h ej refl)
@@ -236,12 +274,14 @@ token_text (b ∷ bs) t h e = by_marks (b == open_paren) (b == close_paren) (b =
     by_marks false false false false ei ej ek el None eo f = absurd cc
     by_marks false false false false ei ej ek el (Some x) eo f = given (token.Test x) f eo
 
-pieces_spell : (ps : List (List ℕ)) → list_all is_alone ps ≡ true → list_all (λ piece. is_some (token_of piece)) ps ≡ true → Spells (filter_map token_of ps) (concat ps)
+pieces_spell : (ps : List (List ℕ)) → list_all is_alone ps ≡ true → list_all (λ piece. is_some (token_of piece)) ps ≡ true
+    → Spells (filter_map token_of ps) (concat ps)
 pieces_spell [] h k = refl
 pieces_spell (p ∷ ps) h k = by_token (token_of p) refl k (pieces_spell ps (and_right (is_alone p) (list_all is_alone ps) h))
   where
     by_token : (o : Option Token) → token_of p ≡ o → (is_some o && list_all (λ piece. is_some (token_of piece)) ps) ≡ true
-        → (list_all (λ piece. is_some (token_of piece)) ps ≡ true → Spells (filter_map token_of ps) (concat ps)) → Spells (cons_option o (filter_map token_of ps)) (p ++ concat ps)
+        → (list_all (λ piece. is_some (token_of piece)) ps ≡ true → Spells (filter_map token_of ps) (concat ps))
+        → Spells (cons_option o (filter_map token_of ps)) (p ++ concat ps)
     by_token None e f more = absurd cc
     by_token (Some t) e f more = (p, concat ps, refl, token_text p t (and_left (is_alone p) (list_all is_alone ps) h) e, more f)
 

@@ -50,7 +50,8 @@ pub all_more : (p q : ℕ → Bool) → ((b : ℕ) → p b ≡ true → q b ≡ 
 all_more p q more [] h = refl
 all_more p q more (x ∷ xs) h = both (p x) (q x) (more x) (all_more p q more xs) h
   where
-    both : (a b : Bool) → (a ≡ true → b ≡ true) → (list_all p xs ≡ true → list_all q xs ≡ true) → (a && list_all p xs) ≡ true → (b && list_all q xs) ≡ true
+    both : (a b : Bool) → (a ≡ true → b ≡ true) → (list_all p xs ≡ true → list_all q xs ≡ true) → (a && list_all p xs) ≡ true
+        → (b && list_all q xs) ≡ true
     both true b f g k = ap (λ c. c && list_all q xs) (f refl) ∙ g k
     both false b f g k = cc
 
@@ -125,16 +126,19 @@ pub version_is_none : (v : List ℕ) (found : ℕ × VersionWhy) → offence v �
 version_is_none v found h = ap (λ o. if is_none o then Some v else None) h
 
 -- the test of a text, by its parts
-pub test_found : (text : List ℕ) (sign : Sign) (len : ℕ) (behind : List ℕ) (star : Bool) (v : List ℕ) → sign ≡ sign_of text → len ≡ sign_len sign
+pub test_found : (text : List ℕ) (sign : Sign) (len : ℕ) (behind : List ℕ) (star : Bool) (v : List ℕ) → sign ≡ sign_of text
+    → len ≡ sign_len sign
     → behind ≡ drop len text → is_any sign behind ≡ false → star ≡ ends_with 42 behind → version_text (without_star behind) ≡ Some v
     → test_with sign star v ≡ test_of text
 test_found text sign len behind star v is_sign is_len is_behind other is_star found =
     let s : behind ≡ signed text = is_behind ∙ ap (λ n. drop n text) (is_len ∙ ap sign_len is_sign) in
-    let any : is_any (sign_of text) (signed text) ≡ false = sym (ap (λ q. is_any q behind) is_sign ∙ ap (is_any (sign_of text)) s) ∙ other in
+    let any : is_any (sign_of text) (signed text) ≡ false =
+    sym (ap (λ q. is_any q behind) is_sign ∙ ap (is_any (sign_of text)) s) ∙ other in
     let starred : star ≡ ends_with 42 (signed text) = is_star ∙ ap (ends_with 42) s in
     let version : version_text (without_star (signed text)) ≡ Some v = sym (ap (λ t. version_text (without_star t)) s) ∙ found in
     ap (λ q. test_with q star v) is_sign ∙ ap (λ q. test_with (sign_of text) q v) starred
-    ∙ sym (ap (λ k. if k then Some Any else option_and_then (test_with (sign_of text) (ends_with 42 (signed text))) (version_text (without_star (signed text)))) any
+    ∙ sym (ap (λ k. if k then Some Any else option_and_then (test_with (sign_of text) (ends_with 42 (signed text)))
+    (version_text (without_star (signed text)))) any
     ∙ ap (option_and_then (test_with (sign_of text) (ends_with 42 (signed text)))) version)
 
 pub and_both : (a b : Bool) → a ≡ true → b ≡ true → (a && b) ≡ true

@@ -31,11 +31,13 @@ Passes atom value depth = Unit {0}
 opened : (value : Bool) (depth : ℕ) → (depth + 1 == 0 && not value) ≡ false
 opened value depth = grind (arith, nat_tests)
 
-closes : (version : List ℕ) (value : Bool) (depth : ℕ) (rest : List Token) → tokens_true version value (Over (depth + 1)) (token.Close ∷ rest) ≡ tokens_true version value (Over depth) rest
+closes : (version : List ℕ) (value : Bool) (depth : ℕ) (rest : List Token)
+    → tokens_true version value (Over (depth + 1)) (token.Close ∷ rest) ≡ tokens_true version value (Over depth) rest
 closes version value depth rest =
     let more : (depth + 1 == 0) ≡ false = grind (arith, nat_tests) in
     let less : depth + 1 - 1 ≡ depth = omega arith in
-    ap (λ k. tokens_true version value (if k then Read else Over (depth + 1 - 1)) rest) more ∙ ap (λ d. tokens_true version value (Over d) rest) less
+    ap (λ k. tokens_true version value (if k then Read else Over (depth + 1 - 1)) rest) more
+    ∙ ap (λ d. tokens_true version value (Over d) rest) less
 
 passed : {rank : Rank} (tree : Tree rank) (version : List ℕ) (value : Bool) (depth : ℕ) (rest : List Token) → Passes rank value depth
     → tokens_true version value (Over depth) (tree_tokens tree ++ rest) ≡ tokens_true version value (Over depth) rest
@@ -72,7 +74,8 @@ read (either p more) version value rest h =
     ∙ read p version value (token.Or ∷ tree_tokens more ++ rest) refl
     ∙ by_part (tree_holds p version) (read more version false rest h)
   where
-    by_part : (k : Bool) → tokens_true version false Read (tree_tokens more ++ rest) ≡ tokens_true version (tree_holds more version) Read rest
+    by_part : (k : Bool) → tokens_true version false Read (tree_tokens more ++ rest) ≡ tokens_true version
+        (tree_holds more version) Read rest
         → tokens_true version k Read (token.Or ∷ tree_tokens more ++ rest) ≡ tokens_true version (k || tree_holds more version) Read rest
     by_part true e = passed more version true 0 rest refl ∙ h true
     by_part false e = e
@@ -82,7 +85,8 @@ read (both a more) version value rest h =
     ∙ read a version value (token.And ∷ tree_tokens more ++ rest) tt
     ∙ by_atom (tree_holds a version) (read more version true rest h)
   where
-    by_atom : (k : Bool) → tokens_true version true Read (tree_tokens more ++ rest) ≡ tokens_true version (tree_holds more version) Read rest
+    by_atom : (k : Bool) → tokens_true version true Read (tree_tokens more ++ rest) ≡ tokens_true version
+        (tree_holds more version) Read rest
         → tokens_true version k Read (token.And ∷ tree_tokens more ++ rest) ≡ tokens_true version (k && tree_holds more version) Read rest
     by_atom true e = e
     by_atom false e = passed more version false 0 rest tt ∙ h
@@ -117,13 +121,15 @@ pub either_holds : (s t : Tree or) (version : List ℕ) → tree_holds (either_o
 unfolding either_of
 either_holds (part p) t version = refl
 either_holds (either p more) t version =
-    ap (λ k. tree_holds p version || k) (either_holds more t version) ∙ or_assoc (tree_holds p version) (tree_holds more version) (tree_holds t version)
+    ap (λ k. tree_holds p version || k) (either_holds more t version)
+    ∙ or_assoc (tree_holds p version) (tree_holds more version) (tree_holds t version)
 
 pub both_holds : (s t : Tree and) (version : List ℕ) → tree_holds (both_of s t) version ≡ (tree_holds s version && tree_holds t version)
 unfolding both_of
 both_holds (single a) t version = refl
 both_holds (both a more) t version =
-    ap (λ k. tree_holds a version && k) (both_holds more t version) ∙ and_assoc (tree_holds a version) (tree_holds more version) (tree_holds t version)
+    ap (λ k. tree_holds a version && k) (both_holds more t version)
+    ∙ and_assoc (tree_holds a version) (tree_holds more version) (tree_holds t version)
 
 pub either_writes : (s t : Tree or) (a b : List ℕ) → Writes s a → Writes t b → Writes (either_of s t) (a ++ bar ∷ b)
 unfolding either_of

@@ -1,5 +1,5 @@
 -- How a version clause is written where a build follows: conda's match_spec.py, in this project's profile.
-use Rattle.std.specs.Prelude.{◌≡◌, ◌≢◌, List, ◌∷◌, ◌++◌, codes, Contains, ℕ}
+use Rattle.std.specs.Prelude.{◌≢◌, List, ◌∷◌, ◌++◌, codes, Contains, ℕ}
 use Rattle.conda_clause.specs.Tests.{IsFaultless, starred}
 
 -- the texts `=v`, `=v*` and `=v.*`

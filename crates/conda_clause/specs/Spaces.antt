@@ -1,6 +1,6 @@
 -- Which characters of a specification stay where spaces are dropped, said of their places in the text: conda's match_spec.py, in
 -- this project's profile.
-use Rattle.std.specs.Prelude.{◌≡◌, ◌≢◌, ◌↔◌, ◌⊎◌, ℕ, Bool, true, false, ◌==◌, ◌+◌, List, ◌∷◌, ◌++◌, codes, length, map, Contains, Option, Some, slice_get}
+use Rattle.std.specs.Prelude.{◌≡◌, ◌≢◌, ◌↔◌, ◌⊎◌, ℕ, Bool, true, false, ◌==◌, ◌+◌, List, ◌∷◌, ◌++◌, codes, length, map, Contains, Some, slice_get}
 use Rattle.std.specs.List.{list_all, list_any}
 use Rattle.std.specs.List.Sorted.{IsStrictlyIncreasing}
 use Rattle.conda_base.specs.Signs.{space}

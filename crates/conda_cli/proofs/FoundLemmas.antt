@@ -6,7 +6,8 @@ use Rattle.conda_path.specs.declared.values.Node.{Node}
 use Rattle.conda_dev.specs.Tree.{Tree, cut_node}
 use Rattle.conda_cli.specs.Answers.{history_in}
 
-bytes_cut : (max : ℕ) (at : Option Node) → option_map (λ node. node.bytes) (option_map (cut_node max) at) ≡ option_map (take max) (option_map (λ node. node.bytes) at)
+bytes_cut : (max : ℕ) (at : Option Node)
+    → option_map (λ node. node.bytes) (option_map (cut_node max) at) ≡ option_map (take max) (option_map (λ node. node.bytes) at)
 bytes_cut max None = refl
 bytes_cut max (Some node) = refl
 
@@ -16,10 +17,12 @@ pub found_bytes : (told : Option Tree) (path : List ℕ) (max : ℕ) (read : Opt
     → IfSome told (λ tree. option_map (λ node. node.bytes) read ≡ option_map (take max) (history_in tree))
 found_bytes None path max read is h = tt
 found_bytes (Some tree) path max read is h =
-    ap (option_map (λ node. node.bytes)) (h ∙ ap (λ p. option_map (cut_node max) (map.get tree p)) is) ∙ bytes_cut max (map.get tree (codes "conda-meta/history"))
+    ap (option_map (λ node. node.bytes)) (h ∙ ap (λ p. option_map (cut_node max) (map.get tree p)) is)
+    ∙ bytes_cut max (map.get tree (codes "conda-meta/history"))
 
 -- the same of each answer that has one
-pub found_in_all : {E : Type 0} (r : Result (Option Node) E) (told : Option Tree) (path : List ℕ) (max : ℕ) → path ≡ codes "conda-meta/history"
+pub found_in_all : {E : Type 0} (r : Result (Option Node) E) (told : Option Tree) (path : List ℕ) (max : ℕ)
+    → path ≡ codes "conda-meta/history"
     → IfOk r (λ read. IfSome told (λ tree. read ≡ option_map (cut_node max) (map.get tree path)))
     → IfOk r (λ read. IfSome told (λ tree. option_map (λ node. node.bytes) read ≡ option_map (take max) (history_in tree)))
 found_in_all (Ok read) told path max is h = found_bytes told path max read is h

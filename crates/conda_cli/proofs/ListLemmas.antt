@@ -23,7 +23,8 @@ longer : (limit : ℕ) (bytes text : List ℕ) → bytes ≡ take (limit + 1) te
 longer limit bytes text is long = omega (arith, ap length is, length-take (limit + 1) text)
 
 -- the answer of what was found, of a text that isn't longer than the limit
-pub answer_whole : (prefix bytes : List ℕ) (text : Option (List ℕ)) (answer : Answer) → Some bytes ≡ option_map (take (history_limit + 1)) text → length bytes ≤ history_limit
+pub answer_whole : (prefix bytes : List ℕ) (text : Option (List ℕ)) (answer : Answer)
+    → Some bytes ≡ option_map (take (history_limit + 1)) text → length bytes ≤ history_limit
     → IsList prefix (Some bytes) answer → IsList prefix text answer
 answer_whole prefix bytes None answer is short h = cc
 answer_whole prefix bytes (Some text) answer is short h =
@@ -31,14 +32,16 @@ answer_whole prefix bytes (Some text) answer is short h =
     subst (λ t. IsList prefix (Some t) answer) (sym (whole history_limit bytes text e short)) h
 
 -- the answer of a text that is longer
-pub answer_longer : (prefix bytes : List ℕ) (text : Option (List ℕ)) → Some bytes ≡ option_map (take (history_limit + 1)) text → history_limit < length bytes
+pub answer_longer : (prefix bytes : List ℕ) (text : Option (List ℕ)) → Some bytes ≡ option_map (take (history_limit + 1)) text
+    → history_limit < length bytes
     → IsList prefix text (refusal (BadHistory 1) prefix)
 answer_longer prefix bytes None is long = cc
 answer_longer prefix bytes (Some text) is long =
     let e : bytes ≡ take (history_limit + 1) text = cc in
     inl (inl (longer history_limit bytes text e long), refl)
 
-read_text : (n : ℕ) (read : Option Node) → IfSome read (λ node. length node.bytes ≤ n) → option_map (λ node. node.bytes) read ≡ option_map (take n) (option_map (λ node. node.bytes) read)
+read_text : (n : ℕ) (read : Option Node) → IfSome read (λ node. length node.bytes ≤ n)
+    → option_map (λ node. node.bytes) read ≡ option_map (take n) (option_map (λ node. node.bytes) read)
 read_text n None short = refl
 read_text n (Some node) short = ap Some (sym (take_all n node.bytes short))
 
@@ -47,7 +50,8 @@ pub answer_told : (told : Option Tree) (prefix : List ℕ) (before now : HostSta
     → before.told prefix ≡ told
     → IfSome read (λ node. length node.bytes ≤ history_limit + 1)
     → IfSome told (λ tree. option_map (λ node. node.bytes) read ≡ option_map (take (history_limit + 1)) (history_in tree))
-    → ((text : Option (List ℕ)) → option_map (λ node. node.bytes) read ≡ option_map (take (history_limit + 1)) text → IsList prefix text answer ⊎ (answer ≡ refusal Memory prefix))
+    → ((text : Option (List ℕ)) → option_map (λ node. node.bytes) read ≡ option_map (take (history_limit + 1)) text
+    → IsList prefix text answer ⊎ (answer ≡ refusal Memory prefix))
     → IsListAnswer prefix before now answer
 answer_told None prefix before now read answer is short found answers =
     let text : Option (List ℕ) = option_map (λ node. node.bytes) read in

@@ -17,7 +17,8 @@ name_cmp_total = then_total (on_total dist_name nat_list_cmp_total) nat_list_cmp
 -- what is sorted by a closure that compares by names ascends by them
 pub IsSorted-from_sort_by : {F : Type 0} {g : Mut F (Bor (List ℕ) × (Bor (List ℕ) × Unit {0})) Ordering} {f : F} (dists : List (List ℕ))
     → ((lt : List ℕ → List ℕ → Bool) → IsStrictWeakOrder lt → ComparesAs g lt f → IsSortedBy lt dists)
-    → ((a : Bor (List ℕ) × (Bor (List ℕ) × Unit {0})) (r : Ordering) (f' : F) → Called g f a r f' → (r ≡ name_cmp a.0.now a.1.0.now) × (f' ≡ f))
+    → ((a : Bor (List ℕ) × (Bor (List ℕ) × Unit {0})) (r : Ordering) (f' : F) → Called g f a r f'
+    → (r ≡ name_cmp a.0.now a.1.0.now) × (f' ≡ f))
     → IsSorted name_cmp dists
 IsSorted-from_sort_by {g = g} {f = f} dists up h =
     up (λ x y. is_lt (name_cmp x y)) (ranks_by name_cmp_total (λ x. x))

@@ -28,7 +28,8 @@ gives_list prefix c d x status before now gives is = (
 abbrev IsExact : List ℕ → Option (List ℕ) → ℕ → OutState → OutState → Type 0
 IsExact prefix found status before now = (status ≡ 5) ⊎ ((answer : Answer) × IsList prefix found answer × IsPut answer status before now)
 
-given_whole : (answer : Answer) (status : ℕ) (before now : OutState) → ¬ Rose before.faults now.faults → IsGiven answer status before now → IsPut answer status before now
+given_whole : (answer : Answer) (status : ℕ) (before now : OutState) → ¬ Rose before.faults now.faults → IsGiven answer status before now
+    → IsPut answer status before now
 given_whole answer status before now quiet given =
     elim given as (λ _. IsPut answer status before now) [ inl whole ↦ whole | inr cut ↦ absurd (quiet cut.1) ]
 
@@ -41,7 +42,8 @@ memory_alone before now quiet _ is = absurd is
 
 -- where no count rises, the answer is the tree's
 exact : (tree : Tree) (prefix : List ℕ) (status : ℕ) (before now : Told) → before.host.told prefix ≡ Some tree → IsQuiet before now
-    → AnswersWith (IsListAnswer prefix before.host now.host) status before.output now.output → IsExact prefix (history_in tree) status before.output now.output
+    → AnswersWith (IsListAnswer prefix before.host now.host) status before.output now.output
+    → IsExact prefix (history_in tree) status before.output now.output
 exact tree prefix status before now is quiet gives =
     let whole : IsPut gives.0 status before.output now.output = given_whole gives.0 status before.output now.output quiet.output gives.2 in
     elim gives.1 as (λ _. IsExact prefix (history_in tree) status before.output now.output) [
@@ -67,7 +69,8 @@ one_of prefix (Some text) answer lists =
     ]
 
 not_of_text : (text : List ℕ) (history : List Block) → IsNoHistory text → IsHistoryOf text history → ⊥
-not_of_text text history bad good = elim bad as (λ _. ⊥) [ inl long ↦ absurd (let short = good.0 in omega arith) | inr none ↦ none history good.1 ]
+not_of_text text history bad good =
+    elim bad as (λ _. ⊥) [ inl long ↦ absurd (let short = good.0 in omega arith) | inr none ↦ none history good.1 ]
 
 not_both : (found : Option (List ℕ)) (history : List Block) → IsBad found → IsGood found history → ⊥
 not_both found history bad good =
@@ -84,7 +87,8 @@ one_history one found first second good other =
     one other.0 first second (subst (λ t. IsHistory t first) e good.2.1) other.2.1
 
 -- the same of an answer all of which was put
-lists_whole : OneHistory → (prefix : List ℕ) (found : Option (List ℕ)) (answer : Answer) (status : ℕ) (before now : OutState) → IsOneOf prefix found answer
+lists_whole : OneHistory → (prefix : List ℕ) (found : Option (List ℕ)) (answer : Answer) (status : ℕ) (before now : OutState)
+    → IsOneOf prefix found answer
     → IsPut answer status before now → ListsExactly prefix found status before now
 lists_whole one prefix found answer status before now which whole =
     elim which as (λ _. ListsExactly prefix found status before now) [
@@ -123,7 +127,8 @@ lists_whole one prefix found answer status before now which whole =
       ]
     ]
 
-lists_memory : (prefix : List ℕ) (found : Option (List ℕ)) (status : ℕ) (before now : OutState) → status ≡ 5 → ListsExactly prefix found status before now
+lists_memory : (prefix : List ℕ) (found : Option (List ℕ)) (status : ℕ) (before now : OutState) → status ≡ 5
+    → ListsExactly prefix found status before now
 lists_memory prefix found status before now is = record {
   absent = λ _. inr is;
   absent_only = λ one. absurd (omega arith);
@@ -133,7 +138,8 @@ lists_memory prefix found status before now is = record {
   good_only = λ zero. absurd (omega arith);
 }
 
-lists_exactly : OneHistory → (prefix : List ℕ) (found : Option (List ℕ)) (status : ℕ) (before now : OutState) → IsExact prefix found status before now → ListsExactly prefix found status before now
+lists_exactly : OneHistory → (prefix : List ℕ) (found : Option (List ℕ)) (status : ℕ) (before now : OutState)
+    → IsExact prefix found status before now → ListsExactly prefix found status before now
 lists_exactly one prefix found status before now e =
     elim e as (λ _. ListsExactly prefix found status before now) [
       | inl memory ↦ lists_memory prefix found status before now memory
@@ -153,7 +159,8 @@ below_three prefix found answer which =
 -- some count rose
 abbrev Rises : Told → Told → Type 0
 Rises before now =
-    Rose before.host.faults now.host.faults ⊎ Rose before.host.lane_faults now.host.lane_faults ⊎ Rose before.output.faults now.output.faults
+    Rose before.host.faults now.host.faults ⊎ Rose before.host.lane_faults now.host.lane_faults
+    ⊎ Rose before.output.faults now.output.faults
 
 fault_of_three : (before now : Told) (fault : Fault) → IsFaultOf before.host now.host fault → status_of fault ≡ 3 → Rises before now
 fault_of_three before now HostFault is three = inl is
@@ -185,6 +192,7 @@ listed_all one prefix status before now x gives is =
     gives_list prefix before.host now.host x status before.output now.output gives is in
     record {
       answers = g;
-      exactly = λ tree told quiet. lists_exactly one prefix (history_in tree) status before.output now.output (exact tree prefix status before now told quiet g);
+      exactly = λ tree told quiet. lists_exactly one prefix (history_in tree) status before.output now.output
+          (exact tree prefix status before now told quiet g);
       faults = fault_rose prefix before now status g;
     }

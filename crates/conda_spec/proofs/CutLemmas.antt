@@ -27,7 +27,8 @@ not_here b bs h = by (eqb_tells b 58)
     by (inl g) = rw (g.0, second bs (λ r e. h r (ap (λ d. d ∷ bs) g.1 ∙ ap (λ q. 58 ∷ q) e))) refl
     by (inr g) = rw g.0 refl
 
-colons_step : (b : ℕ) (bs : List ℕ) → ((r : List ℕ) → b ∷ bs ≢ 58 ∷ (58 ∷ r)) → cut_colons (b ∷ bs) ≡ option_map (in_front b) (cut_colons bs)
+colons_step : (b : ℕ) (bs : List ℕ) → ((r : List ℕ) → b ∷ bs ≢ 58 ∷ (58 ∷ r))
+    → cut_colons (b ∷ bs) ≡ option_map (in_front b) (cut_colons bs)
 colons_step b bs h =
     ap (λ k. cond k (Some ([], drop 1 bs)) (option_map (in_front b) (cut_colons bs))) (not_here b bs h)
 
@@ -36,13 +37,17 @@ colons_none [] h = refl
 colons_none (b ∷ bs) h =
     colons_step b bs (h 0 (omega arith)) ∙ ap (option_map (in_front b)) (colons_none bs (λ k q. h (suc k) (omega (arith, q))))
 
-colons_some : (i : ℕ) (s rest : List ℕ) → drop i s ≡ 58 ∷ (58 ∷ rest) → ((k : ℕ) → k < i → (r : List ℕ) → drop k s ≢ 58 ∷ (58 ∷ r)) → cut_colons s ≡ Some (take i s, rest)
+colons_some : (i : ℕ) (s rest : List ℕ) → drop i s ≡ 58 ∷ (58 ∷ rest) → ((k : ℕ) → k < i → (r : List ℕ) → drop k s ≢ 58 ∷ (58 ∷ r))
+    → cut_colons s ≡ Some (take i s, rest)
 colons_some zero s rest e h = ap cut_colons e
 colons_some (suc i) [] rest e h = absurd (cc)
 colons_some (suc i) (b ∷ bs) rest e h =
     colons_step b bs (h 0 (omega arith)) ∙ ap (option_map (in_front b)) (colons_some i bs rest e (λ k q. h (suc k) (omega (arith, q))))
 
-pub colons_are : (s : List ℕ) (r : Option (Bor (List ℕ) × Bor (List ℕ))) → MatchOption r (FindsText (58 ∷ (58 ∷ [])) s None) (λ x. (i : ℕ) × (j : ℕ) × FindsText (58 ∷ (58 ∷ [])) s (Some (i, j)) × (x.0.now ≡ take i s) × (x.1.now ≡ drop j s) × (i ≤ j) × (length x.0.now ≡ i) × (length x.1.now + j ≡ length s)) → option_map (λ x. (x.0.now, x.1.now)) r ≡ cut_colons s
+pub colons_are : (s : List ℕ) (r : Option (Bor (List ℕ) × Bor (List ℕ)))
+    → MatchOption r (FindsText (58 ∷ (58 ∷ [])) s None)
+    (λ x. (i : ℕ) × (j : ℕ) × FindsText (58 ∷ (58 ∷ [])) s (Some (i, j)) × (x.0.now ≡ take i s) × (x.1.now ≡ drop j s) × (i ≤ j)
+    × (length x.0.now ≡ i) × (length x.1.now + j ≡ length s)) → option_map (λ x. (x.0.now, x.1.now)) r ≡ cut_colons s
 colons_are s None h = sym (colons_none s h)
 colons_are s (Some x) h =
     ap (λ q. Some (q, x.1.now)) h.3
@@ -66,7 +71,9 @@ end_none mark (b ∷ []) h = by (b == mark) refl
 end_none mark (b ∷ c ∷ bs) h =
     ap (option_map (λ front. b ∷ front)) (end_none mark (c ∷ bs) (λ front e. h (b ∷ front) (ap (λ q. b ∷ q) e)))
 
-pub end_is : (mark : ℕ) (s : List ℕ) (r : Option (Bor (List ℕ))) → MatchOption r ((front : List ℕ) → s ≢ front ++ (mark ∷ [])) (λ x. s ≡ x.now ++ (mark ∷ [])) → option_map (λ x. x.now) r ≡ without_last mark s
+pub end_is : (mark : ℕ) (s : List ℕ) (r : Option (Bor (List ℕ)))
+    → MatchOption r ((front : List ℕ) → s ≢ front ++ (mark ∷ [])) (λ x. s ≡ x.now ++ (mark ∷ []))
+    → option_map (λ x. x.now) r ≡ without_last mark s
 end_is mark s None h = sym (end_none mark s h)
 end_is mark s (Some x) h = sym (ap (without_last mark) h ∙ end_some mark x.now)
 

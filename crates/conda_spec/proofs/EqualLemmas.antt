@@ -76,7 +76,8 @@ unfolding CutAtClose
 cut_at_close [] h = inl tt
 cut_at_close (c ∷ cs) h = by_close (c == 41) refl (cut_at_close cs h.1)
   where
-    by_close : (k : Bool) → (c == 41) ≡ k → (AllFree cs ⊎ ((front : List ℕ) × (rest : List ℕ) × (cs ≡ front ++ (41 ∷ rest)) × AllFree front))
+    by_close : (k : Bool) → (c == 41) ≡ k
+        → (AllFree cs ⊎ ((front : List ℕ) × (rest : List ℕ) × (cs ≡ front ++ (41 ∷ rest)) × AllFree front))
         → AllFree (c ∷ cs) ⊎ ((front : List ℕ) × (rest : List ℕ) × (c ∷ cs ≡ front ++ (41 ∷ rest)) × AllFree front)
     by_close true e more = let same : c ≡ 41 = grind (arith, nat_tests) in inr ([], cs, ap (λ d. d ∷ cs) same, tt)
     by_close false e (inl free) = let other : is_mark c ≡ false = grind (arith, nat_tests, h.0) in inl (other, free)
@@ -99,7 +100,8 @@ fault_behind : List (List ℕ) → ℕ → Option Token → Option (ℕ × SpecW
 fault_behind more at token = after (step Atom 0 token) (λ next deep. fault_from next deep at more) (λ why. Some (0, why))
 
 -- the text before a first `)` is a test or is refused, and so is the `)` behind a test
-test_refused : (rest : List (List ℕ)) (at : ℕ) (found : Option Test) → fault_behind ((41 ∷ []) ∷ rest) at (option_map token.Test found) ≡ None → ⊥
+test_refused : (rest : List (List ℕ)) (at : ℕ) (found : Option Test)
+    → fault_behind ((41 ∷ []) ∷ rest) at (option_map token.Test found) ≡ None → ⊥
 unfolding fault_behind
 test_refused rest at None r = true≢false (sym (ap is_none r))
 test_refused rest at (Some test) r = true≢false (sym (ap is_none r))
@@ -132,11 +134,13 @@ single_sign [] h = refl
 single_sign (c ∷ cs) h = let other : (c == 61) ≡ false = grind (arith, nat_tests, h.0) in rw other refl
 
 -- what stands beside a build for such a test
-stood : (bs : List ℕ) (test : Test) → AllFree (61 ∷ bs) → sign_of (61 ∷ bs) ≡ Single → test_of (61 ∷ bs) ≡ Some test → beside_build (61 ∷ bs) ≡ tokens_beside_build (61 ∷ bs) (token.Test test ∷ [])
+stood : (bs : List ℕ) (test : Test) → AllFree (61 ∷ bs) → sign_of (61 ∷ bs) ≡ Single → test_of (61 ∷ bs) ≡ Some test
+    → beside_build (61 ∷ bs) ≡ tokens_beside_build (61 ∷ bs) (token.Test test ∷ [])
 stood bs test free single e =
     let text : List ℕ = 61 ∷ bs in
     let all : tokens text ≡ token.Test test ∷ [] =
-    ap (filter_map token_of) (one_piece 61 bs free) ∙ ap (λ t. cons_option t []) (token_is_test 61 bs refl ∙ ap (option_map token.Test) e) in
+    ap (filter_map token_of) (one_piece 61 bs free)
+    ∙ ap (λ t. cons_option t []) (token_is_test 61 bs refl ∙ ap (option_map token.Test) e) in
     ap (λ sign. cond (is_single sign) (tokens_beside_build text (tokens text)) text) single ∙ ap (tokens_beside_build text) all
 
 free_shortened : (p : ℕ → Bool) (text : List ℕ) (n : ℕ) → NoneOf p text → NoneOf p (take n text)
@@ -171,12 +175,16 @@ unfolding head_of
 star_moves bs e = let same : 42 ≡ 61 = ap head_of e in absurd (omega (arith, same))
 
 -- the test that `=` and a text give
-single_test : (bs : List ℕ) → sign_of (61 ∷ bs) ≡ Single → test_of (61 ∷ bs) ≡ (cond (is_any Single bs) (Some Any) (option_and_then (test_with Single (ends_with 42 bs)) (version_text (without_star bs))))
+single_test : (bs : List ℕ) → sign_of (61 ∷ bs) ≡ Single
+    → test_of (61 ∷ bs) ≡ (cond (is_any Single bs) (Some Any)
+    (option_and_then (test_with Single (ends_with 42 bs)) (version_text (without_star bs))))
 single_test bs single =
     ap (λ sign. cond (is_any sign (drop (sign_len sign) (61 ∷ bs))) (Some Any)
-    (option_and_then (test_with sign (ends_with 42 (drop (sign_len sign) (61 ∷ bs)))) (version_text (without_star (drop (sign_len sign) (61 ∷ bs)))))) single
+    (option_and_then (test_with sign (ends_with 42 (drop (sign_len sign) (61 ∷ bs))))
+    (version_text (without_star (drop (sign_len sign) (61 ∷ bs)))))) single
 
-moves : (bs : List ℕ) → NoneOf is_joint_or_equals bs → AllFree (61 ∷ bs) → sign_of (61 ∷ bs) ≡ Single → fault_from Atom 0 0 (pieces (61 ∷ bs)) ≡ None → beside_build (61 ∷ bs) ≡ 61 ∷ bs → ⊥
+moves : (bs : List ℕ) → NoneOf is_joint_or_equals bs → AllFree (61 ∷ bs) → sign_of (61 ∷ bs) ≡ Single
+    → fault_from Atom 0 0 (pieces (61 ∷ bs)) ≡ None → beside_build (61 ∷ bs) ≡ 61 ∷ bs → ⊥
 moves bs plain free single good fixed = by_any (is_any Single bs) refl
   where
     v : List ℕ
@@ -185,25 +193,36 @@ moves bs plain free single good fixed = by_any (is_any Single bs) refl
     rest : Option Test
     rest = option_and_then (test_with Single (ends_with 42 bs)) (version_text (without_star bs))
 
-    by_version : (k : Bool) → is_none (offence (without_star bs)) ≡ k → test_of (61 ∷ bs) ≡ option_and_then (test_with Single (ends_with 42 bs)) (version_text (without_star bs)) → ⊥
+    by_version : (k : Bool) → is_none (offence (without_star bs)) ≡ k
+        → test_of (61 ∷ bs) ≡ option_and_then (test_with Single (ends_with 42 bs)) (version_text (without_star bs)) → ⊥
     by_version true n e =
-        let found : test_of (61 ∷ bs) ≡ Some (Starts (without_star bs)) = e ∙ ap (λ k. option_and_then (test_with Single (ends_with 42 bs)) (cond k (Some (without_star bs)) None)) n in
-        no_version_begins (without_star bs) bs (free_star is_joint_or_equals bs plain) (sym (stood bs (Starts (without_star bs)) free single found) ∙ fixed)
+        let found : test_of (61 ∷ bs) ≡ Some (Starts (without_star bs)) =
+        e ∙ ap (λ k. option_and_then (test_with Single (ends_with 42 bs)) (cond k (Some (without_star bs)) None)) n in
+        no_version_begins (without_star bs) bs (free_star is_joint_or_equals bs plain)
+        (sym (stood bs (Starts (without_star bs)) free single found) ∙ fixed)
     by_version false n e =
-        let none : test_of (61 ∷ bs) ≡ None = e ∙ ap (λ k. option_and_then (test_with Single (ends_with 42 bs)) (cond k (Some (without_star bs)) None)) n in
-        let fault : Option Token → Option (ℕ × SpecWhy) = λ t. after (step Atom 0 t) (λ next deep. fault_from next deep (0 + length (61 ∷ bs)) []) (λ why. Some (0, why)) in
-        let read : fault None ≡ None = sym (ap (fault_from Atom 0 0) (one_piece 61 bs free) ∙ ap fault (token_is_test 61 bs refl ∙ ap (option_map token.Test) none)) ∙ good in
+        let none : test_of (61 ∷ bs) ≡ None =
+        e ∙ ap (λ k. option_and_then (test_with Single (ends_with 42 bs)) (cond k (Some (without_star bs)) None)) n in
+        let fault : Option Token → Option (ℕ × SpecWhy) =
+        λ t. after (step Atom 0 t) (λ next deep. fault_from next deep (0 + length (61 ∷ bs)) []) (λ why. Some (0, why)) in
+        let read : fault None ≡ None =
+        sym (ap (fault_from Atom 0 0) (one_piece 61 bs free) ∙ ap fault (token_is_test 61 bs refl ∙ ap (option_map token.Test) none))
+        ∙ good in
         true≢false (sym (ap is_none read))
 
     by_any : (k : Bool) → is_any Single bs ≡ k → ⊥
     by_any true a =
-        let found : test_of (61 ∷ bs) ≡ Some Any = single_test bs single ∙ ap (λ k. cond k (Some Any) (option_and_then (test_with Single (ends_with 42 bs)) (version_text (without_star bs)))) a in
+        let found : test_of (61 ∷ bs) ≡ Some Any =
+        single_test bs single
+        ∙ ap (λ k. cond k (Some Any) (option_and_then (test_with Single (ends_with 42 bs)) (version_text (without_star bs)))) a in
         star_moves bs (sym (stood bs Any free single found) ∙ fixed)
     by_any false a =
         by_version (is_none (offence (without_star bs))) refl
-        (single_test bs single ∙ ap (λ k. cond k (Some Any) (option_and_then (test_with Single (ends_with 42 bs)) (version_text (without_star bs)))) a)
+        (single_test bs single
+        ∙ ap (λ k. cond k (Some Any) (option_and_then (test_with Single (ends_with 42 bs)) (version_text (without_star bs)))) a)
 
 pub equal_moves : (bs : List ℕ) → NoneOf is_joint_or_equals bs → clause_fault (61 ∷ bs) ≡ None → beside_build (61 ∷ bs) ≡ 61 ∷ bs → ⊥
 equal_moves bs h good fixed =
-    let read : fault_from Atom 0 0 (pieces (61 ∷ bs)) ≡ None = lesser_none (unclosed 0 (61 ∷ bs)) (fault_from Atom 0 0 (pieces (61 ∷ bs))) good in
+    let read : fault_from Atom 0 0 (pieces (61 ∷ bs)) ≡ None =
+    lesser_none (unclosed 0 (61 ∷ bs)) (fault_from Atom 0 0 (pieces (61 ∷ bs))) good in
     moves bs h (one_test_free bs h read) (single_sign bs h) read fixed

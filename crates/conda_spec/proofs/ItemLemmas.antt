@@ -46,7 +46,9 @@ first_item at quote (b ∷ bs) end h = by (ends_item quote b) refl (first_item (
     some_same : (m n : ℕ) → Some m ≡ Some n → m ≡ n
     some_same m n e = cc
 
-    by : (v : Bool) → ends_item quote b ≡ v → (item_end (at + 1) (quote_behind quote b) bs ≡ Some end → Ends (at + 1) (quote_behind quote b) bs end) → Ends at quote (b ∷ bs) end
+    by : (v : Bool) → ends_item quote b ≡ v
+        → (item_end (at + 1) (quote_behind quote b) bs ≡ Some end → Ends (at + 1) (quote_behind quote b) bs end)
+        → Ends at quote (b ∷ bs) end
     by true e more =
         let here : at ≡ end = some_same at end (sym (ap (λ v. cond v (Some at) (item_end (at + 1) (quote_behind quote b) bs)) e) ∙ h) in
         record {
@@ -72,16 +74,19 @@ first_item at quote (b ∷ bs) end h = by (ends_item quote b) refl (first_item (
 
 -- items one after the other
 
-pub items_fail : (e : SpecErr) (given : Given) (at : ℕ) (item : List ℕ) (items : List (List ℕ)) → Fails e (item_read given at item) → Fails e (items_read given at (item ∷ items))
+pub items_fail : (e : SpecErr) (given : Given) (at : ℕ) (item : List ℕ) (items : List (List ℕ)) → Fails e (item_read given at item)
+    → Fails e (items_read given at (item ∷ items))
 unfolding items_read
 items_fail (BadSpec place why) given at item items h = ap (λ r. r >>= λ next. items_read next (at + length item + 1) items) h
 items_fail Memory given at item items h = tt
 
-pub items_next : (given next : Given) (at : ℕ) (item : List ℕ) (items : List (List ℕ)) → item_read given at item ≡ Ok next → items_read given at (item ∷ items) ≡ items_read next (at + length item + 1) items
+pub items_next : (given next : Given) (at : ℕ) (item : List ℕ) (items : List (List ℕ)) → item_read given at item ≡ Ok next
+    → items_read given at (item ∷ items) ≡ items_read next (at + length item + 1) items
 unfolding items_read
 items_next given next at item items h = ap (λ r. r >>= λ next. items_read next (at + length item + 1) items) h
 
-pub items_last : (r : Result Given SpecErr) (given : Given) (at : ℕ) (item : List ℕ) → Gives spec_fault_of r (item_read given at item) → Gives spec_fault_of r (items_read given at (item ∷ []))
+pub items_last : (r : Result Given SpecErr) (given : Given) (at : ℕ) (item : List ℕ) → Gives spec_fault_of r (item_read given at item)
+    → Gives spec_fault_of r (items_read given at (item ∷ []))
 unfolding items_read
 items_last (Ok x) given at item h = ap (λ r. r >>= λ next. items_read next (at + length item + 1) []) h
 items_last (Err e) given at item h = items_fail e given at item [] h

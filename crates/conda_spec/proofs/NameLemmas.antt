@@ -50,7 +50,9 @@ name_chars (b ∷ bs) = by (is_name_char (to_ascii_lowercase b)) refl (name_char
     Named : List ℕ → Type 0
     Named xs = AllByRecursion (λ b. is_name_char b ≡ true) (map to_ascii_lowercase xs)
 
-    by : (v : Bool) → is_name_char (to_ascii_lowercase b) ≡ v → AllByRecursion (λ b. is_name_char b ≡ true) (map to_ascii_lowercase (before_first ends_name bs)) → AllByRecursion (λ b. is_name_char b ≡ true) (map to_ascii_lowercase (before_first ends_name (b ∷ bs)))
+    by : (v : Bool) → is_name_char (to_ascii_lowercase b) ≡ v
+        → AllByRecursion (λ b. is_name_char b ≡ true) (map to_ascii_lowercase (before_first ends_name bs))
+        → AllByRecursion (λ b. is_name_char b ≡ true) (map to_ascii_lowercase (before_first ends_name (b ∷ bs)))
     by true e more =
         let m : ℕ = position_or_len ends_name bs in
         let n : position_or_len ends_name (b ∷ bs) ≡ suc m = rw e (omega arith) in
@@ -66,7 +68,9 @@ some_name [] h = absurd (omega (arith, h))
 some_name (b ∷ bs) h = λ e. cc
 
 -- what stands before the brackets, by its parts
-pub front_is : (given : Given) (wanted : VersionAndBuild) (s name lowered : List ℕ) (all : Given) → IsGoodGiven given → IsVersionAndBuild wanted → 0 < length name → name ≡ before_first ends_name s → lowered ≡ map to_ascii_lowercase name → all ≡ with_wanted given wanted → IsGoodFront (lowered, all)
+pub front_is : (given : Given) (wanted : VersionAndBuild) (s name lowered : List ℕ) (all : Given) → IsGoodGiven given
+    → IsVersionAndBuild wanted → 0 < length name → name ≡ before_first ends_name s → lowered ≡ map to_ascii_lowercase name
+    → all ≡ with_wanted given wanted → IsGoodFront (lowered, all)
 front_is given wanted s name lowered all g w some n l a =
     let chars : AllByRecursion (λ b. is_name_char b ≡ true) lowered = rw (l, n) (name_chars s) in
     let more : lowered ≢ [] = rw l (some_name name some) in

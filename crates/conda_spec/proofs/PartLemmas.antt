@@ -1,8 +1,8 @@
 -- What the grammar says of parts is what the reader takes.
-use Rattle.std.proofs.Common.{◌≡◌, ◌≢◌, ◌↔◌, ℕ, suc, ◌+◌, ◌-◌, Bool, true, false, cond, length, List, [], ◌∷◌, ◌++◌, codes, refl, sym, ap, subst, ◌∙◌, arith, length-append, true≢false, Option, None, Some}
+use Rattle.std.proofs.Common.{◌≡◌, ℕ, ◌-◌, Bool, true, false, cond, length, List, [], ◌∷◌, ◌++◌, codes, refl, sym, ap, subst, ◌∙◌, arith, length-append, true≢false, Option, None, Some}
 use Rattle.std.proofs.lemmas.Bool.{eq-eqb, eqb-true}
 use Rattle.std.specs.Option.{option_map_or, option_or}
-use Rattle.std.specs.Prelude.{IfSome, slice_get, unwrap_or, ◌==◌}
+use Rattle.std.specs.Prelude.{IfSome, slice_get, ◌==◌}
 use Rattle.conda_base.specs.Signs.{space}
 use Rattle.conda_base.specs.Texts.{begins_with, ends_with}
 use Rattle.conda_clause.specs.Clause.{beside_build, clause_fault}
@@ -18,7 +18,7 @@ use Rattle.conda_spec.specs.Grammar.IsItems.{last as items_last, more as items_m
 use Rattle.conda_spec.specs.Grammar.IsNamed.{named}
 use Rattle.conda_spec.specs.Grammar.IsWords.{alone, with_build}
 use Rattle.conda_spec.specs.Grammar.Wins.{before, inside}
-use Rattle.conda_spec.specs.Parts.{Front, Parts, nothing}
+use Rattle.conda_spec.specs.Parts.{Front, Parts}
 use Rattle.conda_spec.specs.Reading.{equal_to, spec_parts, version_beside}
 use Rattle.conda_spec.proofs.LowerLaws.{Laws}
 
@@ -31,7 +31,8 @@ at_end (x ∷ xs) b = at_end xs b
 ends_so : (front : List ℕ) (b : ℕ) → ends_with b (front ++ b ∷ []) ≡ true
 ends_so front b =
     let less : length (front ++ b ∷ []) - 1 ≡ length front = omega (arith, length-append front (b ∷ [])) in
-    ap (λ n. option_map_or (λ c. c == b) (slice_get (front ++ b ∷ []) n) false) less ∙ ap (λ o. option_map_or (λ c. c == b) o false) (at_end front b)
+    ap (λ n. option_map_or (λ c. c == b) (slice_get (front ++ b ∷ []) n) false) less
+    ∙ ap (λ o. option_map_or (λ c. c == b) o false) (at_end front b)
     ∙ eq-eqb b b refl
 
 last_is : (b x : ℕ) (xs : List ℕ) → option_map_or (λ c. c == b) (slice_get (x ∷ xs) (length xs)) false ≡ true
@@ -91,7 +92,8 @@ module _ (l : Laws) where
   follows_right apart text version build (signs word t v b w begins) = words_right word text version build w
 
   named_right : (text name : List ℕ) (version build : Option (List ℕ)) → IsNamed text name version build → IsRight version
-  named_right text name version build (named written rest v b some free ends follows) = follows_right (begins_with space rest) (kept rest) version build follows
+  named_right text name version build (named written rest v b some free ends follows) =
+      follows_right (begins_with space rest) (kept rest) version build follows
 
   pub front_right : (text : List ℕ) (front : Front) → IsFront text front → IsRight front.1.version
   front_right text front (front_alone t name version build none is) = named_right t name version build is
@@ -128,12 +130,14 @@ module _ (l : Laws) where
   beside_is (Some build) None h = any build
   beside_is (Some build) (Some clause) h = beside build clause (beside_build clause) ((l.beside clause (beside_build clause) h).1 refl)
 
-  is_beside : (build version written : Option (List ℕ)) → IsRight version → IsBeside build version written → written ≡ version_beside build version
+  is_beside : (build version written : Option (List ℕ)) → IsRight version → IsBeside build version written
+      → written ≡ version_beside build version
   is_beside build version written h (no_build v) = refl
   is_beside build version written h (any b) = refl
   is_beside build version written h (beside b clause to is) = ap Some ((l.beside clause to h).0 is)
 
-  pub parts_are : (front : Front) (given : Given) → IsRight front.1.version → IsRight given.version → AreParts front given (spec_parts front given)
+  pub parts_are : (front : Front) (given : Given) → IsRight front.1.version → IsRight given.version
+      → AreParts front given (spec_parts front given)
   parts_are front given h k = record {
     channel = wins_or given.channel front.1.channel;
     subdir = wins_or given.subdir front.1.subdir;

@@ -31,7 +31,8 @@ run_before p [] y ys h e = rw e refl
 run_before p (x ∷ xs) y ys h e = rw (h.0) (grind (arith, run_before p xs y ys h.1 e))
 
 -- the first character of a kind
-pub first_place : (p : ℕ → Bool) (xs : List ℕ) (y : ℕ) (ys : List ℕ) → NoneOf p xs → p y ≡ true → position_or_len p (xs ++ (y ∷ ys)) ≡ length xs
+pub first_place : (p : ℕ → Bool) (xs : List ℕ) (y : ℕ) (ys : List ℕ) → NoneOf p xs → p y ≡ true
+    → position_or_len p (xs ++ (y ∷ ys)) ≡ length xs
 first_place p [] y ys h e = rw e refl
 first_place p (x ∷ xs) y ys h e = rw (h.0) (grind (arith, first_place p xs y ys h.1 e))
 
@@ -54,13 +55,15 @@ after_place p xs y ys h e = ap (λ n. drop (n + 1) (xs ++ (y ∷ ys))) (first_pl
 -- the last character of a kind
 pub none_reversed : (p : ℕ → Bool) (xs : List ℕ) → NoneOf p xs → NoneOf p (reverse xs)
 none_reversed p [] h = tt
-none_reversed p (x ∷ xs) h = subst (NoneOf p) (sym (reverse-append (x ∷ []) xs)) (none_in_both p (reverse xs) (x ∷ []) (none_reversed p xs h.1) (h.0, tt))
+none_reversed p (x ∷ xs) h =
+    subst (NoneOf p) (sym (reverse-append (x ∷ []) xs)) (none_in_both p (reverse xs) (x ∷ []) (none_reversed p xs h.1) (h.0, tt))
 
 -- the parts of a text at the characters of a kind
 pub one_part : (p : ℕ → Bool) (xs : List ℕ) → NoneOf p xs → slice_split p xs ≡ xs ∷ []
 one_part p [] h = refl
 one_part p (x ∷ xs) h = rw (h.0) (ap (onto_first x) (one_part p xs h.1))
 
-pub first_part : (p : ℕ → Bool) (xs : List ℕ) (y : ℕ) (ys : List ℕ) → NoneOf p xs → p y ≡ true → slice_split p (xs ++ (y ∷ ys)) ≡ xs ∷ slice_split p ys
+pub first_part : (p : ℕ → Bool) (xs : List ℕ) (y : ℕ) (ys : List ℕ) → NoneOf p xs → p y ≡ true
+    → slice_split p (xs ++ (y ∷ ys)) ≡ xs ∷ slice_split p ys
 first_part p [] y ys h e = rw e refl
 first_part p (x ∷ xs) y ys h e = rw (h.0) (ap (onto_first x) (first_part p xs y ys h.1 e))

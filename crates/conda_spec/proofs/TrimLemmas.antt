@@ -40,7 +40,9 @@ reverse_some : (xs : List ℕ) → xs ≢ [] → reverse xs ≢ []
 reverse_some xs some e = some (sym (reverse-reverse xs) ∙ ap reverse e)
 
 pub ends_by_word : (xs ys : List ℕ) → NoneOf is_space ys → ys ≢ [] → EndsBare (xs ++ ys)
-ends_by_word xs ys h some = subst BeginsBare (sym (reverse-append xs ys)) (begins_with_word (reverse ys) (reverse xs) (none_reversed is_space ys h) (reverse_some ys some))
+ends_by_word xs ys h some =
+    subst BeginsBare (sym (reverse-append xs ys))
+    (begins_with_word (reverse ys) (reverse xs) (none_reversed is_space ys h) (reverse_some ys some))
 
 -- nothing is trimmed of such a text
 pub trimmed_same : (text : List ℕ) → BeginsBare text → EndsBare text → trimmed text ≡ text

@@ -28,7 +28,9 @@ lower_twice b = grind (arith, nat_tests)
 -- what is lowered is in lower case
 pub lowered : (text : List ℕ) → map to_ascii_lowercase (map to_ascii_lowercase text) ≡ map to_ascii_lowercase text
 lowered [] = refl
-lowered (b ∷ text) = ap (λ c. c ∷ map to_ascii_lowercase (map to_ascii_lowercase text)) (lower_twice b) ∙ ap (λ rest. to_ascii_lowercase b ∷ rest) (lowered text)
+lowered (b ∷ text) =
+    ap (λ c. c ∷ map to_ascii_lowercase (map to_ascii_lowercase text)) (lower_twice b)
+    ∙ ap (λ rest. to_ascii_lowercase b ∷ rest) (lowered text)
 
 pub unless_ok : {A F : Type 0} (fault : Option F) (x y : A) → unless fault x ≡ Ok y → (fault ≡ None) × (x ≡ y)
 unless_ok None x y h = (refl, cc)

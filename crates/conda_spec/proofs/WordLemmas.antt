@@ -67,7 +67,8 @@ clause_word l (b ∷ bs) good lowered =
       writes = (sym lowered, l.clause text good);
     }
   where
-    ends : slice_get (b ∷ bs) (length (b ∷ bs) - 1) ≡ Some (get_or (b ∷ bs) (length (b ∷ bs) - 1) 0) → (c : ℕ) → ends_with c (b ∷ bs) ≡ false → (get_or (b ∷ bs) (length (b ∷ bs) - 1) 0 == c) ≡ false
+    ends : slice_get (b ∷ bs) (length (b ∷ bs) - 1) ≡ Some (get_or (b ∷ bs) (length (b ∷ bs) - 1) 0) → (c : ℕ)
+        → ends_with c (b ∷ bs) ≡ false → (get_or (b ∷ bs) (length (b ∷ bs) - 1) 0 == c) ≡ false
     ends at c h = sym (ap (λ o. option_map_or (λ e. e == c) o false) at) ∙ h
 
     by : (k : Bool) → (b == comma) ≡ k → (m : Bool) → (b == bar) ≡ m → is_joint b ≡ false
@@ -79,25 +80,31 @@ joint_is_sign : (c : ℕ) → is_sign_or_equals c ≡ false → is_joint_or_equa
 joint_is_sign c h = grind (arith, nat_tests)
 
 -- what stands beside a build isn't `=v`
-beside_law : (clause : List ℕ) → clause_fault clause ≡ None → beside_build clause ≡ clause → (v : List ℕ) → NoneOf is_sign_or_equals v → clause ≢ equals ∷ v
+beside_law : (clause : List ℕ) → clause_fault clause ≡ None → beside_build clause ≡ clause → (v : List ℕ) → NoneOf is_sign_or_equals v
+    → clause ≢ equals ∷ v
 beside_law clause good fixed v free e =
-    equal_moves v (fewer is_sign_or_equals is_joint_or_equals joint_is_sign v free) (ap clause_fault (sym e) ∙ good) (ap beside_build (sym e) ∙ fixed ∙ e)
+    equal_moves v (fewer is_sign_or_equals is_joint_or_equals joint_is_sign v free) (ap clause_fault (sym e) ∙ good)
+    (ap beside_build (sym e) ∙ fixed ∙ e)
 
 -- What may follow a name in the normal form.
 unfoldable pub CanFollow : Option (List ℕ) → Option (List ℕ) → Type 0
 CanFollow None None = Unit {0}
 CanFollow None (Some build) = ⊥
 CanFollow (Some clause) None = IsClauseWord clause
-CanFollow (Some clause) (Some build) = IsClauseWord clause × ((v : List ℕ) → NoneOf is_sign_or_equals v → clause ≢ equals ∷ v) × IsFreeWord bars_build build
+CanFollow (Some clause) (Some build) =
+    IsClauseWord clause × ((v : List ℕ) → NoneOf is_sign_or_equals v → clause ≢ equals ∷ v) × IsFreeWord bars_build build
 
 -- by the invariant of a specification
-pub follows : (l : Laws) (version build : Option (List ℕ)) → IfSome version (λ clause. (clause_fault clause ≡ None) × (map to_ascii_lowercase clause ≡ clause))
-    → IfSome build (IsFreeWord bars_build) → (IsSome build → IfSome version (λ clause. beside_build clause ≡ clause) × IsSome version) → CanFollow version build
+pub follows : (l : Laws) (version build : Option (List ℕ))
+    → IfSome version (λ clause. (clause_fault clause ≡ None) × (map to_ascii_lowercase clause ≡ clause))
+    → IfSome build (IsFreeWord bars_build) → (IsSome build → IfSome version (λ clause. beside_build clause ≡ clause) × IsSome version)
+    → CanFollow version build
 unfolding CanFollow
 follows l None None good free together = tt
 follows l None (Some build) good free together = absurd (true≢false (sym ((together refl).1)))
 follows l (Some clause) None good free together = clause_word l clause good.0 good.1
-follows l (Some clause) (Some build) good free together = (clause_word l clause good.0 good.1, beside_law clause good.0 ((together refl).0), free)
+follows l (Some clause) (Some build) good free together =
+    (clause_word l clause good.0 good.1, beside_law clause good.0 ((together refl).0), free)
 
 -- Which characters these hold.
 
@@ -117,14 +124,17 @@ kept_one : (clause : List ℕ) → IsClauseWord clause → kept (32 ∷ clause) 
 kept_one clause h =
     subst (λ c. NoneOf is_space c → kept (32 ∷ c) ≡ c) (sym h.whole) (λ spaces. kept_word h.first h.others spaces) (clause_spaces clause h)
 
-kept_two : (clause build : List ℕ) → IsClauseWord clause → IsFreeWord bars_build build → kept (32 ∷ (clause ++ (32 ∷ build))) ≡ clause ++ (32 ∷ build)
+kept_two : (clause build : List ℕ) → IsClauseWord clause → IsFreeWord bars_build build
+    → kept (32 ∷ (clause ++ (32 ∷ build))) ≡ clause ++ (32 ∷ build)
 kept_two clause [] h k = absurd (k.0 refl)
 kept_two clause (c ∷ cs) h k =
     subst (λ t. NoneOf is_space t → last_of None t ≡ Some h.last → kept (32 ∷ (t ++ (32 ∷ (c ∷ cs)))) ≡ t ++ (32 ∷ (c ∷ cs))) (sym h.whole)
-    (λ spaces ends. kept_words h.first h.others c cs h.last spaces (fewer bars_build is_space no_space_in_build (c ∷ cs) k.1) ends h.stays (no_joint_in_build c (k.1.0)))
+    (λ spaces ends. kept_words h.first h.others c cs h.last spaces (fewer bars_build is_space no_space_in_build (c ∷ cs) k.1) ends h.stays
+    (no_joint_in_build c (k.1.0)))
     (clause_spaces clause h) h.ends
 
-followed_by : (version build : Option (List ℕ)) → CanFollow version build → Follows (begins_with space (word_text version ++ word_text build)) (kept (word_text version ++ word_text build)) version build
+followed_by : (version build : Option (List ℕ)) → CanFollow version build
+    → Follows (begins_with space (word_text version ++ word_text build)) (kept (word_text version ++ word_text build)) version build
 unfolding CanFollow
 followed_by None None h = end false
 followed_by None (Some build) h = absurd h
@@ -152,10 +162,12 @@ stops None (Some build) h = absurd h
 stops (Some clause) build h = refl
 
 -- a name in lower case, and the words behind it
-pub named_by : (name : List ℕ) (version build : Option (List ℕ)) → AllOf is_name_char name → name ≢ [] → CanFollow version build → IsNamed (name ++ (word_text version ++ word_text build)) name version build
+pub named_by : (name : List ℕ) (version build : Option (List ℕ)) → AllOf is_name_char name → name ≢ [] → CanFollow version build
+    → IsNamed (name ++ (word_text version ++ word_text build)) name version build
 named_by name version build chars some h =
     subst (λ n. IsNamed (name ++ (word_text version ++ word_text build)) n version build) (name_lowered name chars)
-    (named name (word_text version ++ word_text build) version build some (none_of_all is_name_char ends_name name_goes_on name chars) (stops version build h) (followed_by version build h))
+    (named name (word_text version ++ word_text build) version build some (none_of_all is_name_char ends_name name_goes_on name chars)
+    (stops version build h) (followed_by version build h))
 
 -- a character that stands in no name, no version clause and no build
 record IsForeign (p : ℕ → Bool) : Type 0 where
@@ -164,18 +176,22 @@ record IsForeign (p : ℕ → Bool) : Type 0 where
   pub build : (b : ℕ) → bars_build b ≡ false → p b ≡ false
   pub space : p 32 ≡ false
 
-foreign_word : (p : ℕ → Bool) → IsForeign p → (version build : Option (List ℕ)) → CanFollow version build → NoneOf p (word_text version ++ word_text build)
+foreign_word : (p : ℕ → Bool) → IsForeign p → (version build : Option (List ℕ)) → CanFollow version build
+    → NoneOf p (word_text version ++ word_text build)
 unfolding CanFollow
 foreign_word p f None None h = tt
 foreign_word p f None (Some build) h = absurd h
 foreign_word p f (Some clause) None h = none_in_both p (32 ∷ clause) [] (f.space, fewer bars_clause p f.clause clause h.chars) tt
 foreign_word p f (Some clause) (Some build) h =
-    none_in_both p (32 ∷ clause) (32 ∷ build) (f.space, fewer bars_clause p f.clause clause (h.0).chars) (f.space, fewer bars_build p f.build build h.2.1)
+    none_in_both p (32 ∷ clause) (32 ∷ build) (f.space, fewer bars_clause p f.clause clause (h.0).chars)
+    (f.space, fewer bars_build p f.build build h.2.1)
 
-foreign : (p : ℕ → Bool) → IsForeign p → (name : List ℕ) (version build : Option (List ℕ)) → AllOf is_name_char name → CanFollow version build
+foreign : (p : ℕ → Bool) → IsForeign p → (name : List ℕ) (version build : Option (List ℕ)) → AllOf is_name_char name
+    → CanFollow version build
     → NoneOf p (name ++ (word_text version ++ word_text build))
 foreign p f name version build chars h =
-    none_in_both p name (word_text version ++ word_text build) (none_of_all is_name_char p f.name name chars) (foreign_word p f version build h)
+    none_in_both p name (word_text version ++ word_text build) (none_of_all is_name_char p f.name name chars)
+    (foreign_word p f version build h)
 
 colon_foreign : IsForeign (is_byte colon)
 colon_foreign = record {
@@ -194,8 +210,10 @@ bracket_foreign = record {
 }
 
 -- neither `:` nor `]` stands there
-pub no_colon : (name : List ℕ) (version build : Option (List ℕ)) → AllOf is_name_char name → CanFollow version build → IsFreeOf colon (name ++ (word_text version ++ word_text build))
+pub no_colon : (name : List ℕ) (version build : Option (List ℕ)) → AllOf is_name_char name → CanFollow version build
+    → IsFreeOf colon (name ++ (word_text version ++ word_text build))
 no_colon name version build chars h = foreign (is_byte colon) colon_foreign name version build chars h
 
-pub no_bracket : (name : List ℕ) (version build : Option (List ℕ)) → AllOf is_name_char name → CanFollow version build → IsFreeOf close_bracket (name ++ (word_text version ++ word_text build))
+pub no_bracket : (name : List ℕ) (version build : Option (List ℕ)) → AllOf is_name_char name → CanFollow version build
+    → IsFreeOf close_bracket (name ++ (word_text version ++ word_text build))
 no_bracket name version build chars h = foreign (is_byte close_bracket) bracket_foreign name version build chars h

@@ -10,7 +10,6 @@ use Rattle.conda_clause.specs.Kept.{kept}
 use Rattle.conda_clause.specs.Tree.{IsClause}
 use Rattle.conda_spec.specs.declared.given.Given.{Given}
 use Rattle.conda_spec.specs.Parts.{bars_bare, bars_build, bars_channel, ends_name, Front, is_comparison, is_quote, is_sign, is_sign_or_equals, IsFreeWord, NoneOf, nothing, Parts}
-use Rattle.conda_spec.specs.Reading.{equal_to, spec_parts}
 
 -- The text writes this version clause: it is the clause but for the case of its letters.
 abbrev pub IsClauseOf : List ℕ → List ℕ → Type 0
@@ -34,14 +33,17 @@ IsPlainVersion v = NoneOf is_sign_or_equals v × NoneOf (is_byte space) v
 -- A version clause alone, or a version clause, a space and a build. The first text is the clause as it is written.
 pub data IsWords : List ℕ → List ℕ → Option (List ℕ) → Option (List ℕ) → Type 0 where
   alone : (word clause : List ℕ) → IsClauseOf word clause → IsWords word word (Some clause) None
-  with_build : (word clause build : List ℕ) → IsClauseOf word clause → IsFreeWord bars_build build → IsWords word (word ++ space ∷ build) (Some clause) (Some build)
+  with_build : (word clause build : List ℕ) → IsClauseOf word clause → IsFreeWord bars_build build
+      → IsWords word (word ++ space ∷ build) (Some clause) (Some build)
 
 -- A version clause that begins directly behind a name: with `<`, `>`, `!` or `~`, or with `=` or `==` where one of the signs that
 -- V doesn't hold comes before a further `=`.
 pub data BeginsClause : List ℕ → Type 0 where
   compares : (sign : ℕ) (rest : List ℕ) → is_comparison sign ≡ true → BeginsClause (sign ∷ rest)
-  behind_one : (v : List ℕ) (sign : ℕ) (rest : List ℕ) → NoneOf (is_byte equals) v → is_sign sign ≡ true → BeginsClause (equals ∷ (v ++ sign ∷ rest))
-  behind_two : (v : List ℕ) (sign : ℕ) (rest : List ℕ) → NoneOf (is_byte equals) v → is_sign sign ≡ true → BeginsClause (equals ∷ equals ∷ (v ++ sign ∷ rest))
+  behind_one : (v : List ℕ) (sign : ℕ) (rest : List ℕ) → NoneOf (is_byte equals) v → is_sign sign ≡ true
+      → BeginsClause (equals ∷ (v ++ sign ∷ rest))
+  behind_two : (v : List ℕ) (sign : ℕ) (rest : List ℕ) → NoneOf (is_byte equals) v → is_sign sign ≡ true
+      → BeginsClause (equals ∷ equals ∷ (v ++ sign ∷ rest))
 
 -- What follows a name, without the spaces that are dropped, by whether a space parts it from the name: the version clause and the
 -- build that it gives.
@@ -51,7 +53,8 @@ pub data Follows : Bool → List ℕ → Option (List ℕ) → Option (List ℕ)
   -- `=V`
   starts : (v clause : List ℕ) → IsPlainVersion v → IsClauseOf (equals ∷ v) clause → Follows false (equals ∷ v) (Some clause) None
   -- `==V`
-  equal : (v clause : List ℕ) → IsPlainVersion v → IsClauseOf (equals ∷ equals ∷ v) clause → Follows false (equals ∷ equals ∷ v) (Some clause) None
+  equal : (v clause : List ℕ) → IsPlainVersion v → IsClauseOf (equals ∷ equals ∷ v) clause
+      → Follows false (equals ∷ equals ∷ v) (Some clause) None
   -- `=V=B`
   starts_build : (v clause build : List ℕ) → IsPlainVersion v → IsEqualClause v clause → IsFreeWord bars_build build
       → Follows false (equals ∷ (v ++ equals ∷ build)) (Some clause) (Some build)
@@ -65,7 +68,8 @@ pub data Follows : Bool → List ℕ → Option (List ℕ) → Option (List ℕ)
   spaced : (word text : List ℕ) (version build : Option (List ℕ)) → IsWords word text version build
       → (IsSome build → (v : List ℕ) → NoneOf is_sign_or_equals v → word ≢ equals ∷ v) → Follows true text version build
   -- a version clause with its signs, and a space and a build, if there is one
-  signs : (word text : List ℕ) (version build : Option (List ℕ)) → IsWords word text version build → BeginsClause word → Follows false text version build
+  signs : (word text : List ℕ) (version build : Option (List ℕ)) → IsWords word text version build → BeginsClause word
+      → Follows false text version build
 
 -- ---- the name and the channel
 
@@ -77,17 +81,21 @@ ends_here (b ∷ rest) = ends_name b
 -- The name, as long as it can be, in either case, and what follows it.
 pub data IsNamed : List ℕ → List ℕ → Option (List ℕ) → Option (List ℕ) → Type 0 where
   named : (written rest : List ℕ) (version build : Option (List ℕ)) → written ≢ [] → NoneOf ends_name written → ends_here rest ≡ true
-      → Follows (begins_with space rest) (kept rest) version build → IsNamed (written ++ rest) (map to_ascii_lowercase written) version build
+      → Follows (begins_with space rest) (kept rest) version build
+      → IsNamed (written ++ rest) (map to_ascii_lowercase written) version build
 
 -- What stands before the brackets: `name..`, `channel::name..` or `channel/subdir::name..`.
 pub data IsFront : List ℕ → Front → Type 0 where
   alone : (text name : List ℕ) (version build : Option (List ℕ)) → ((before rest : List ℕ) → text ≢ before ++ (codes "::" ++ rest))
       → IsNamed text name version build → IsFront text (name, record nothing { version = version; build = build })
   in_channel : (channel text name : List ℕ) (version build : Option (List ℕ)) → IsFreeWord bars_channel channel
-      → IsNamed text name version build → IsFront (channel ++ (codes "::" ++ text)) (name, record nothing { channel = Some channel; version = version; build = build })
-  in_subdir : (channel subdir text name : List ℕ) (version build : Option (List ℕ)) → IsFreeWord bars_channel channel → IsFreeWord bars_channel subdir
       → IsNamed text name version build
-      → IsFront ((channel ++ slash ∷ subdir) ++ (codes "::" ++ text)) (name, record nothing { channel = Some channel; subdir = Some subdir; version = version; build = build })
+      → IsFront (channel ++ (codes "::" ++ text)) (name, record nothing { channel = Some channel; version = version; build = build })
+  in_subdir : (channel subdir text name : List ℕ) (version build : Option (List ℕ)) → IsFreeWord bars_channel channel
+      → IsFreeWord bars_channel subdir
+      → IsNamed text name version build
+      → IsFront ((channel ++ slash ∷ subdir) ++ (codes "::" ++ text))
+      (name, record nothing { channel = Some channel; subdir = Some subdir; version = version; build = build })
 
 -- ---- the brackets
 
@@ -102,7 +110,8 @@ pub data IsItem : Given → List ℕ → Given → Type 0 where
       → IsItem given (codes "version=" ++ written) (record given { version = Some clause })
   build : (given : Given) (written value : List ℕ) → given.build ≡ None → IsValue written value → IsFreeWord bars_build value
       → IsItem given (codes "build=" ++ written) (record given { build = Some value })
-  build_number : (given : Given) (written value : List ℕ) (number : ℕ) → given.number ≡ None → IsValue written value → digits_below 18446744073709551616 value ≡ Some number
+  build_number : (given : Given) (written value : List ℕ) (number : ℕ) → given.number ≡ None → IsValue written value
+      → digits_below 18446744073709551616 value ≡ Some number
       → IsItem given (codes "build_number=" ++ written) (record given { number = Some number })
   channel : (given : Given) (written value : List ℕ) → given.channel ≡ None → IsValue written value → IsFreeWord bars_channel value
       → IsItem given (codes "channel=" ++ written) (record given { channel = Some value })
@@ -112,7 +121,8 @@ pub data IsItem : Given → List ℕ → Given → Type 0 where
 -- Items with `,` between each two.
 pub data IsItems : Given → List ℕ → Given → Type 0 where
   last : (before behind : Given) (item : List ℕ) → IsItem before item behind → IsItems before item behind
-  more : (before next behind : Given) (item rest : List ℕ) → IsItem before item next → IsItems next rest behind → IsItems before (item ++ comma ∷ rest) behind
+  more : (before next behind : Given) (item rest : List ℕ) → IsItem before item next → IsItems next rest behind
+      → IsItems before (item ++ comma ∷ rest) behind
 
 -- ---- the whole
 

@@ -1,6 +1,6 @@
 -- How a specification is read, and which fault of one that is none is answered, with its place: conda's match_spec.py, in this
 -- project's profile. Which texts are read, and with which parts, is what the grammar says, and a law ties the two.
-use Rattle.std.specs.Prelude.{ℕ, Bool, false, not, nat_eq, nat_lt, ◌+◌, ◌-◌, ◌==◌, ◌&&◌, ◌||◌, if◌then◌else◌, List, [], ◌∷◌, ◌++◌, codes, length, map, drop, Option, None, Some, unwrap_or, is_some, Ok, Err}
+use Rattle.std.specs.Prelude.{ℕ, Bool, false, not, nat_eq, nat_lt, ◌+◌, ◌-◌, ◌==◌, ◌&&◌, if◌then◌else◌, List, [], ◌∷◌, ◌++◌, codes, length, map, drop, Option, None, Some, unwrap_or, is_some, Ok, Err}
 use Rattle.std.specs.Option.{option_map, option_and_then, option_or}
 use Rattle.std.specs.Char.{to_ascii_lowercase}
 use Rattle.std.specs.Cmp.Lexicographic.{pointwise}
@@ -14,7 +14,7 @@ use Rattle.conda_clause.specs.Kept.{is_joint, kept}
 use Rattle.conda_spec.specs.declared.given.Given.{Given}
 use Rattle.conda_spec.specs.declared.given.ItemKey.{ItemKey}
 use Rattle.conda_spec.specs.declared.given.ItemKey.TheVariants as keys
-use Rattle.conda_base.specs.Signs.{close_bracket, comma, double_quote, equals, open_bracket, quote, slash, space, star}
+use Rattle.conda_base.specs.Signs.{close_bracket, comma, equals, open_bracket, slash, space, star}
 use Rattle.conda_base.specs.Texts.{begins_with, cut_first, cut_last, ends_with, is_byte}
 use Rattle.conda_spec.specs.Cuts.{cut_colons, without_last}
 use Rattle.conda_base.specs.Reads.{Read, ◌>>=◌, unless}
@@ -41,7 +41,8 @@ build_at at text = if is_free bars_build text then Ok text else Err (at, Build)
 -- those in front are added, and stand where the first written one does.
 unfoldable pub clause_at : (ℕ → ℕ) → ℕ → ℕ → List ℕ → SpecRead (List ℕ)
 clause_at place start added text =
-    unless (option_map (λ fault. (place (start + (fault.0 - added)), fault.1)) (clause_fault (map to_ascii_lowercase text))) (map to_ascii_lowercase text)
+    unless (option_map (λ fault. (place (start + (fault.0 - added)), fault.1)) (clause_fault (map to_ascii_lowercase text)))
+    (map to_ascii_lowercase text)
 
 -- "equal to V", where V stands between two `=`: V itself where it ends with a star, else `==V`
 abbrev pub equal_to : List ℕ → List ℕ
@@ -240,7 +241,8 @@ clause_value at text = clause_at (λ i. at + place_of text i) 0 0 (kept text)
 unfoldable pub put : Given → ItemKey → ℕ → ℕ × List ℕ → SpecRead Given
 put given keys.Version at value = clause_value value.0 value.1 >>= λ x. Ok (record given { version = Some x })
 put given keys.Build at value = build_at value.0 value.1 >>= λ x. Ok (record given { build = Some x })
-put given keys.BuildNumber at value = number_or at (digits_below 18446744073709551616 value.1) >>= λ x. Ok (record given { number = Some x })
+put given keys.BuildNumber at value =
+    number_or at (digits_below 18446744073709551616 value.1) >>= λ x. Ok (record given { number = Some x })
 put given keys.Channel at value = channel_at value.0 value.1 >>= λ x. Ok (record given { channel = Some x })
 put given keys.Subdir at value = channel_at value.0 value.1 >>= λ x. Ok (record given { subdir = Some x })
 

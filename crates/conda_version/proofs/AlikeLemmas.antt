@@ -1,5 +1,5 @@
 -- Versions that are equal in order start with the same versions.
-use Rattle.std.proofs.Common.{◌≡◌, ℕ, Bool, true, false, ◌&&◌, List, [], ◌∷◌, refl, sym, ap, ◌∙◌}
+use Rattle.std.proofs.Common.{◌≡◌, ℕ, Bool, true, false, ◌&&◌, List, [], ◌∷◌, refl, ap, ◌∙◌}
 use Rattle.std.specs.Prelude.{nat_eq, if◌then◌else◌}
 use Rattle.std.specs.Cmp.Lexicographic.{bytes_decides, slice_cmp, texts_ties}
 use Rattle.std.specs.List.{starts_with}
@@ -106,7 +106,8 @@ meaning_begins x y z h = by_local (is_empty z.local)
         else is_eq (components_cmp (epoch_and_main y) (epoch_and_main z)) && components_start y.local z.local)
     by_local true = components_begin (epoch_and_main x) (epoch_and_main y) (epoch_and_main z) front
     by_local false =
-        both_same (is_eq (components_cmp (epoch_and_main x) (epoch_and_main z))) (is_eq (components_cmp (epoch_and_main y) (epoch_and_main z)))
+        both_same (is_eq (components_cmp (epoch_and_main x) (epoch_and_main z)))
+        (is_eq (components_cmp (epoch_and_main y) (epoch_and_main z)))
         (components_start x.local z.local) (components_start y.local z.local)
         (ap is_eq (components_total.congr (epoch_and_main x) (epoch_and_main y) (epoch_and_main z) front))
         (components_begin x.local y.local z.local back)

@@ -9,10 +9,12 @@ use Rattle.conda_base.specs.Texts.{IsFreeOf, cut_first, in_front, is_byte}
 
 -- what conda_base's laws of cuts say
 pub record Cuts : Type 0 where
-  pub first : (mark : ℕ) (text before behind : List ℕ) → (cut_first mark text ≡ Some (before, behind)) ↔ ((text ≡ before ++ mark ∷ behind) × IsFreeOf mark before)
+  pub first : (mark : ℕ) (text before behind : List ℕ)
+      → (cut_first mark text ≡ Some (before, behind)) ↔ ((text ≡ before ++ mark ∷ behind) × IsFreeOf mark before)
   pub none : (mark : ℕ) (text : List ℕ) → (cut_first mark text ≡ None) ↔ IsFreeOf mark text
 
-pub cuts : ((mark : ℕ) (text before behind : List ℕ) → (cut_first mark text ≡ Some (before, behind)) ↔ ((text ≡ before ++ mark ∷ behind) × IsFreeOf mark before))
+pub cuts : ((mark : ℕ) (text before behind : List ℕ)
+    → (cut_first mark text ≡ Some (before, behind)) ↔ ((text ≡ before ++ mark ∷ behind) × IsFreeOf mark before))
     → ((mark : ℕ) (text : List ℕ) → (cut_first mark text ≡ None) ↔ IsFreeOf mark text) → Cuts
 cuts first none = record { first = first; none = none }
 
@@ -33,8 +35,10 @@ cut_at c [] h = absurd (omega arith)
 cut_at c (b ∷ bs) h = by_byte (b == c) refl (cut_at c bs)
   where
     by_byte : (k : Bool) → (b == c) ≡ k
-        → (position_or_len (is_byte c) bs < length bs → cut_first c bs ≡ Some (take (position_or_len (is_byte c) bs) bs, drop (position_or_len (is_byte c) bs + 1) bs))
-        → cut_first c (b ∷ bs) ≡ Some (take (position_or_len (is_byte c) (b ∷ bs)) (b ∷ bs), drop (position_or_len (is_byte c) (b ∷ bs) + 1) (b ∷ bs))
+        → (position_or_len (is_byte c) bs < length bs
+        → cut_first c bs ≡ Some (take (position_or_len (is_byte c) bs) bs, drop (position_or_len (is_byte c) bs + 1) bs))
+        → cut_first c (b ∷ bs) ≡ Some
+        (take (position_or_len (is_byte c) (b ∷ bs)) (b ∷ bs), drop (position_or_len (is_byte c) (b ∷ bs) + 1) (b ∷ bs))
     by_byte true e more =
         let len : position_or_len (is_byte c) (b ∷ bs) ≡ 0 = ap (λ k. cond (not k) (1 + position_or_len (is_byte c) bs) 0) e in
         cut_here c b bs e ∙ sym (ap (λ n. Some (take n (b ∷ bs), drop (n + 1) (b ∷ bs))) len)
@@ -60,7 +64,8 @@ free_of_place c (b ∷ bs) h = by_byte (b == c) refl (free_of_place c bs)
         let len : position_or_len (is_byte c) (b ∷ bs) ≡ 0 = ap (λ k. cond (not k) (1 + position_or_len (is_byte c) bs) 0) e in
         absurd (omega arith)
     by_byte false e more =
-        let len : position_or_len (is_byte c) (b ∷ bs) ≡ 1 + position_or_len (is_byte c) bs = ap (λ k. cond (not k) (1 + position_or_len (is_byte c) bs) 0) e in
+        let len : position_or_len (is_byte c) (b ∷ bs) ≡ 1 + position_or_len (is_byte c) bs =
+        ap (λ k. cond (not k) (1 + position_or_len (is_byte c) bs) 0) e in
         (e, more (omega arith))
 
 -- no place was found

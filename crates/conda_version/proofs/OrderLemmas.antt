@@ -50,7 +50,8 @@ run_cmp_is (Word x) (Word y) = refl
 pub run_total : IsTotalOrder run_cmp
 unfolding by_parts
 run_total =
-    let parts : IsTotalOrder by_parts = then_total (on_total rank nat_cmp_total) (then_total (on_total number nat_cmp_total) (on_total word nat_list_cmp_total)) in
+    let parts : IsTotalOrder by_parts =
+    then_total (on_total rank nat_cmp_total) (then_total (on_total number nat_cmp_total) (on_total word nat_list_cmp_total)) in
     subst IsTotalOrder (λ i x y. run_cmp_is x y i) parts
 
 -- the first n elements of a list that is padded at its end
@@ -60,7 +61,8 @@ padded pad (suc n) [] = pad ∷ padded pad n []
 padded pad (suc n) (x ∷ xs) = x ∷ padded pad n xs
 
 module _ {A : Type 0} {cmp : A → A → Ordering} (total : IsTotalOrder cmp) (pad : A) where
-  padded_is : (n : ℕ) (xs ys : List A) → length xs ≤ n → length ys ≤ n → padded_cmp cmp pad xs ys ≡ slice_cmp cmp (padded pad n xs) (padded pad n ys)
+  padded_is : (n : ℕ) (xs ys : List A) → length xs ≤ n → length ys ≤ n
+      → padded_cmp cmp pad xs ys ≡ slice_cmp cmp (padded pad n xs) (padded pad n ys)
   unfolding padded
   padded_is zero [] [] h k = refl
   padded_is zero [] (y ∷ ys) h k = absurd (omega arith)
@@ -81,7 +83,8 @@ module _ {A : Type 0} {cmp : A → A → Ordering} (total : IsTotalOrder cmp) (p
         trans = λ xs ys zs h k.
             let n : ℕ = length xs + length ys + length zs in
             padded_is n xs zs (omega arith) (omega arith)
-            ∙ lists.trans (padded pad n xs) (padded pad n ys) (padded pad n zs) (sym (padded_is n xs ys (omega arith) (omega arith)) ∙ h) (sym (padded_is n ys zs (omega arith) (omega arith)) ∙ k);
+            ∙ lists.trans (padded pad n xs) (padded pad n ys) (padded pad n zs) (sym (padded_is n xs ys (omega arith) (omega arith)) ∙ h)
+            (sym (padded_is n ys zs (omega arith) (omega arith)) ∙ k);
         congr = λ xs ys zs h.
             let n : ℕ = length xs + length ys + length zs in
             padded_is n xs zs (omega arith) (omega arith)

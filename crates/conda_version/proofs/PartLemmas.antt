@@ -45,12 +45,14 @@ module _ (cuts : Cuts) where
       by_place None e g = no_place c text (sym e)
       by_place (Some p) e g = absurd cc
 
-  pub epoch_sound : (text : List ℕ) → epoch_fault text ≡ None → IfSome (epoch_part text) (λ digits. is_digits digits ≡ true) × IsFreeOf exclamation (behind_epoch text)
+  pub epoch_sound : (text : List ℕ) → epoch_fault text ≡ None
+      → IfSome (epoch_part text) (λ digits. is_digits digits ≡ true) × IsFreeOf exclamation (behind_epoch text)
   epoch_sound text good = by_cut (cut_first exclamation text) refl good
     where
       by_cut : (halves : Option (List ℕ × List ℕ)) → cut_first exclamation text ≡ halves
           → option_and_then fault_at_epoch halves ≡ None
-          → IfSome (option_map (λ h. h.0) halves) (λ digits. is_digits digits ≡ true) × IsFreeOf exclamation (option_map_or (λ h. h.1) halves text)
+          → IfSome (option_map (λ h. h.0) halves) (λ digits. is_digits digits ≡ true) × IsFreeOf exclamation
+          (option_map_or (λ h. h.1) halves text)
       by_cut None e g = (tt, (cuts.none exclamation text).0 e)
       by_cut (Some h) e g = by_digits (is_digits h.0) refl g
         where
@@ -68,10 +70,12 @@ module _ (cuts : Cuts) where
       by_cut None e g = ((cuts.none plus (behind_epoch text)).0 e, tt)
       by_cut (Some h) e g = by_empty (is_empty h.0) refl g
         where
-          by_empty : (k : Bool) → is_empty h.0 ≡ k → (if k then Some (main_start text) else mark_from plus (main_start text + length h.0 + 1) h.1) ≡ None
+          by_empty : (k : Bool) → is_empty h.0 ≡ k
+              → (if k then Some (main_start text) else mark_from plus (main_start text + length h.0 + 1) h.1) ≡ None
               → IsFreeOf plus h.0 × IsFreeOf plus h.1
           by_empty true d g = absurd cc
-          by_empty false d g = (((cuts.first plus (behind_epoch text) h.0 h.1).0 e).1, mark_none plus (main_start text + length h.0 + 1) h.1 g)
+          by_empty false d g =
+              (((cuts.first plus (behind_epoch text) h.0 h.1).0 e).1, mark_none plus (main_start text + length h.0 + 1) h.1 g)
 
   -- ---- the parts of a text without long runs
 
@@ -79,15 +83,21 @@ module _ (cuts : Cuts) where
       → (list_all is_ascii_digit digits ≡ true) × (length digits ≤ 38)
   short_epoch text digits found good short =
       let all : is_digits digits ≡ true = subst (λ part. IfSome part (λ d. is_digits d ≡ true)) (sym found) (epoch_sound text good).0 in
-      let whole : text ≡ (digits ++ exclamation ∷ []) ++ behind_epoch text = behind_whole text ∙ ap (λ part. epoch_text part ++ behind_epoch text) (sym found) in
-      let front = short_front digits (exclamation ∷ []) (short_front (digits ++ exclamation ∷ []) (behind_epoch text) (subst HasShortRuns whole short)) in
+      let whole : text ≡ (digits ++ exclamation ∷ []) ++ behind_epoch text =
+      behind_whole text ∙ ap (λ part. epoch_text part ++ behind_epoch text) (sym found) in
+      let front =
+      short_front digits (exclamation ∷ [])
+      (short_front (digits ++ exclamation ∷ []) (behind_epoch text) (subst HasShortRuns whole short)) in
       (all_digits digits (digits_are_all digits all), short_digits digits all front)
 
   short_rest : (text : List ℕ) → HasShortRuns text → HasShortRuns (main_part text ++ local_text (local_part text))
-  short_rest text short = short_back (epoch_text (epoch_part text)) (main_part text ++ local_text (local_part text)) (subst HasShortRuns (parts_whole text) short)
+  short_rest text short =
+      short_back (epoch_text (epoch_part text)) (main_part text ++ local_text (local_part text))
+      (subst HasShortRuns (parts_whole text) short)
 
   pub short_main : (text : List ℕ) → HasShortRuns text → HasShortRuns (main_dots (main_part text))
-  short_main text short = short_of_main_dots (main_part text) (short_front (main_part text) (local_text (local_part text)) (short_rest text short))
+  short_main text short =
+      short_of_main_dots (main_part text) (short_front (main_part text) (local_text (local_part text)) (short_rest text short))
 
   pub short_local : (text : List ℕ) → HasShortRuns text → IfSome (option_map (map as_dot) (local_part text)) HasShortRuns
   short_local text short = by_local (local_part text) (short_back (main_part text) (local_text (local_part text)) (short_rest text short))

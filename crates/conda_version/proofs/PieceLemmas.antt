@@ -18,7 +18,8 @@ pub place_is : (xs : List ℕ) (at : ℕ) → Some at ≡ position is_dot xs →
 place_is xs at h = grind (arith, nat_tests)
 
 -- the first component ends at the first `.`
-pub split_at_place : (xs : List ℕ) (at : ℕ) → Some at ≡ position is_dot xs → slice_split is_dot xs ≡ take at xs ∷ slice_split is_dot (drop (at + 1) xs)
+pub split_at_place : (xs : List ℕ) (at : ℕ) → Some at ≡ position is_dot xs
+    → slice_split is_dot xs ≡ take at xs ∷ slice_split is_dot (drop (at + 1) xs)
 split_at_place xs at h =
     let found = place_is xs at h in
     rw (found.0) (slice_split_first is_dot xs 0 (omega (arith, found.0, found.1)))
@@ -35,12 +36,14 @@ pub split_without : (xs : List ℕ) → None ≡ position is_dot xs → slice_sp
 split_without xs h = split_of_none xs (no_place_is xs h)
 
 pub empty_at_place : (start : ℕ) (xs : List ℕ) (at : ℕ) → Some at ≡ position is_dot xs
-    → empty_from start (slice_split is_dot xs) ≡ (if at == 0 then Some start else empty_from (start + at + 1) (slice_split is_dot (drop (at + 1) xs)))
+    → empty_from start (slice_split is_dot xs)
+    ≡ (if at == 0 then Some start else empty_from (start + at + 1) (slice_split is_dot (drop (at + 1) xs)))
 empty_at_place start xs at h =
     let found = place_is xs at h in
     let within : at ≤ length xs = omega (arith, found.1) in
     ap (empty_from start) (split_at_place xs at h)
-    ∙ ap (λ n. if n == 0 then Some start else empty_from (start + n + 1) (slice_split is_dot (drop (at + 1) xs))) (length-take-le at xs within)
+    ∙ ap (λ n. if n == 0 then Some start else empty_from (start + n + 1) (slice_split is_dot (drop (at + 1) xs)))
+    (length-take-le at xs within)
 
 pub empty_without : (start : ℕ) (xs : List ℕ) → None ≡ position is_dot xs
     → empty_from start (slice_split is_dot xs) ≡ (if length xs == 0 then Some start else None)

@@ -55,9 +55,11 @@ pub stops : (k : Bool) (xs : List ℕ) → OtherKind k (drop (prefix_len (like k
 stops k [] = tt
 stops k (x ∷ xs) = by_kind (is_ascii_digit x) (like k x) refl refl (stops k xs)
   where
-    by_kind : (d l : Bool) → is_ascii_digit x ≡ d → like k x ≡ l → OtherKind k (drop (prefix_len (like k) xs) xs) → OtherKind k (drop (prefix_len (like k) (x ∷ xs)) (x ∷ xs))
+    by_kind : (d l : Bool) → is_ascii_digit x ≡ d → like k x ≡ l → OtherKind k (drop (prefix_len (like k) xs) xs)
+        → OtherKind k (drop (prefix_len (like k) (x ∷ xs)) (x ∷ xs))
     by_kind d true e f more =
-        let len : prefix_len (like k) (x ∷ xs) ≡ suc (prefix_len (like k) xs) = ap (λ l. cond l (1 + prefix_len (like k) xs) 0) f ∙ omega arith in
+        let len : prefix_len (like k) (x ∷ xs) ≡ suc (prefix_len (like k) xs) =
+        ap (λ l. cond l (1 + prefix_len (like k) xs) 0) f ∙ omega arith in
         subst (λ n. OtherKind k (drop n (x ∷ xs))) (sym len) more
     by_kind d false e f more =
         let len : prefix_len (like k) (x ∷ xs) ≡ 0 = ap (λ l. cond l (1 + prefix_len (like k) xs) 0) f in
@@ -75,16 +77,19 @@ joined_front b [] = ([], [], refl)
 joined_front b ([] ∷ runs) = ([], runs, refl)
 joined_front b ((c ∷ run) ∷ runs) = by_kind (beq (is_ascii_digit b) (is_ascii_digit c))
   where
-    by_kind : (k : Bool) → (front : List ℕ) × (more : List (List ℕ)) × (cond k ((b ∷ c ∷ run) ∷ runs) ((b ∷ []) ∷ (c ∷ run) ∷ runs) ≡ (b ∷ front) ∷ more)
+    by_kind : (k : Bool) → (front : List ℕ) × (more : List (List ℕ))
+        × (cond k ((b ∷ c ∷ run) ∷ runs) ((b ∷ []) ∷ (c ∷ run) ∷ runs) ≡ (b ∷ front) ∷ more)
     by_kind true = (c ∷ run, runs, refl)
     by_kind false = ([], (c ∷ run) ∷ runs, refl)
 
-pub run_front : (k : Bool) (run more : List ℕ) → 0 < length run → list_all (like k) run ≡ true → OtherKind k more → runs_of (run ++ more) ≡ run ∷ runs_of more
+pub run_front : (k : Bool) (run more : List ℕ) → 0 < length run → list_all (like k) run ≡ true → OtherKind k more
+    → runs_of (run ++ more) ≡ run ∷ runs_of more
 run_front k [] more some h o = absurd (omega arith)
 run_front k (b ∷ []) [] some h o = refl
 run_front k (b ∷ []) (c ∷ cs) some h o =
     let first = and_parts (like k b) true h in
-    let apart : beq (is_ascii_digit b) (is_ascii_digit c) ≡ false = ap (λ d. beq d (is_ascii_digit c)) (kind_is k (is_ascii_digit b) first.0) ∙ unlike k (is_ascii_digit c) o in
+    let apart : beq (is_ascii_digit b) (is_ascii_digit c) ≡ false =
+    ap (λ d. beq d (is_ascii_digit c)) (kind_is k (is_ascii_digit b) first.0) ∙ unlike k (is_ascii_digit c) o in
     let next = joined_front c (runs_of cs) in
     ap (onto_runs b) next.2
     ∙ ap (λ q. cond q ((b ∷ c ∷ next.0) ∷ next.1) ((b ∷ []) ∷ (c ∷ next.0) ∷ next.1)) apart
@@ -92,7 +97,8 @@ run_front k (b ∷ []) (c ∷ cs) some h o =
 run_front k (b ∷ c ∷ cs) more some h o =
     let first = and_parts (like k b) (list_all (like k) (c ∷ cs)) h in
     let second = and_parts (like k c) (list_all (like k) cs) first.1 in
-    let alike : beq (is_ascii_digit b) (is_ascii_digit c) ≡ true = ap (λ d. beq d (is_ascii_digit c)) (kind_is k (is_ascii_digit b) first.0) ∙ second.0 in
+    let alike : beq (is_ascii_digit b) (is_ascii_digit c) ≡ true =
+    ap (λ d. beq d (is_ascii_digit c)) (kind_is k (is_ascii_digit b) first.0) ∙ second.0 in
     ap (onto_runs b) (run_front k (c ∷ cs) more (omega arith) first.1 o)
     ∙ ap (λ q. cond q ((b ∷ c ∷ cs) ∷ runs_of more) ((b ∷ []) ∷ (c ∷ cs) ∷ runs_of more)) alike
 
@@ -103,7 +109,8 @@ runs_first (b ∷ bs) h =
     let w : List ℕ = b ∷ bs in
     let k : Bool = is_ascii_digit b in
     let some : 0 < length (take (run_len w) w) = omega (arith, length-take (run_len w) w, run_some b bs) in
-    ap runs_of (sym (take-append-drop (run_len w) w)) ∙ run_front k (take (run_len w) w) (drop (run_len w) w) some (all_of_prefix (like k) w) (stops k w)
+    ap runs_of (sym (take-append-drop (run_len w) w))
+    ∙ run_front k (take (run_len w) w) (drop (run_len w) w) some (all_of_prefix (like k) w) (stops k w)
 
 prefix_of_all : (p : ℕ → Bool) (n : ℕ) (xs : List ℕ) → list_all p (take n xs) ≡ true → n ≤ length xs → n ≤ prefix_len p xs
 prefix_of_all p zero xs h k = omega arith
@@ -126,8 +133,11 @@ run_of_digits bs h =
 -- the first run of a text without long runs has a number, where it begins with a digit
 pub first_run_value : (bs : List ℕ) → HasShortRuns bs → HasValue (take (run_len bs) bs)
 first_run_value bs short h =
-    let e = run_of_digits bs (begins_of_take (run_len bs) bs h) in
-    (ap (λ n. list_all is_ascii_digit (take n bs)) e ∙ all_of_prefix is_ascii_digit bs, omega (arith, e, short.each 0, length-take (run_len bs) bs))
+    let e = run_of_digits bs (begins_of_take (run_len bs) bs h) in (
+      ap (λ n. list_all is_ascii_digit (take n bs)) e
+          ∙ all_of_prefix is_ascii_digit bs,
+      omega (arith, e, short.each 0, length-take (run_len bs) bs),
+    )
 
 -- Texts without long runs.
 

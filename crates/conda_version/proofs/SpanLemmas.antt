@@ -17,7 +17,8 @@ range_of_front xs ys i j h k =
 pub cut_of_more : (runs more : List Run) (spans : List Span) → AreSpans runs spans → cut (runs ++ more) spans ≡ cut runs spans
 cut_of_more runs more [] h = refl
 cut_of_more runs more (s ∷ spans) h =
-    ap (λ r. r ∷ cut (runs ++ more) spans) (range_of_front runs more s.start s.end h.0.0 h.0.1) ∙ ap (λ rs. slice_range runs s.start s.end ∷ rs) (cut_of_more runs more spans h.1)
+    ap (λ r. r ∷ cut (runs ++ more) spans) (range_of_front runs more s.start s.end h.0.0 h.0.1)
+    ∙ ap (λ rs. slice_range runs s.start s.end ∷ rs) (cut_of_more runs more spans h.1)
 
 whole_range : (runs more : List Run) (n : ℕ) → n ≡ length runs + length more → slice_range (runs ++ more) (length runs) n ≡ more
 whole_range runs more n e =
@@ -25,7 +26,8 @@ whole_range runs more n e =
     ap (take (n - length runs)) (drop-append_seam runs more) ∙ ap (λ k. take k more) size ∙ take-length more
 
 -- the span of what was added
-pub cut_of_push : (runs more : List Run) (spans : List Span) (s : Span) → AreSpans runs spans → s.start ≡ length runs → s.end ≡ length runs + length more
+pub cut_of_push : (runs more : List Run) (spans : List Span) (s : Span) → AreSpans runs spans → s.start ≡ length runs
+    → s.end ≡ length runs + length more
     → cut (runs ++ more) (spans ++ s ∷ []) ≡ cut runs spans ++ more ∷ []
 cut_of_push runs more spans s h b e =
     map-append (λ p. slice_range (runs ++ more) p.start p.end) spans (s ∷ [])

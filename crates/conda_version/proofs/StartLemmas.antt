@@ -11,7 +11,8 @@ begins_at same begins pad xs [] = true
 begins_at same begins pad xs (y ∷ []) = begins (slice_index_or xs 0 pad) y
 begins_at same begins pad xs (y ∷ z ∷ ys) = same (slice_index_or xs 0 pad) y && begins_at same begins pad (drop 1 xs) (z ∷ ys)
 
-begins_is : {A : Type 0} (same begins : A → A → Bool) (pad : A) (xs ys : List A) → begins_at same begins pad xs ys ≡ all_begin same begins pad xs ys
+begins_is : {A : Type 0} (same begins : A → A → Bool) (pad : A) (xs ys : List A)
+    → begins_at same begins pad xs ys ≡ all_begin same begins pad xs ys
 begins_is same begins pad [] [] = refl
 begins_is same begins pad (x ∷ xs) [] = refl
 begins_is same begins pad [] (y ∷ []) = refl

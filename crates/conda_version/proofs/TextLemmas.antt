@@ -52,7 +52,8 @@ front_of_all : (xs : List ℕ) → (front : List ℕ) × (xs ≡ front ++ withou
 front_of_all [] = ([], refl, refl)
 front_of_all (x ∷ xs) = front_of_more (x == space) refl (front_of_all xs)
   where
-    front_of_more : (k : Bool) → (x == space) ≡ k → (front : List ℕ) × (xs ≡ front ++ without_front xs) × (list_all (is_byte space) front ≡ true)
+    front_of_more : (k : Bool) → (x == space) ≡ k
+        → (front : List ℕ) × (xs ≡ front ++ without_front xs) × (list_all (is_byte space) front ≡ true)
         → (front : List ℕ) × (x ∷ xs ≡ front ++ without_front (x ∷ xs)) × (list_all (is_byte space) front ≡ true)
     front_of_more true e more = (
       x ∷ more.0,
@@ -65,7 +66,8 @@ cut_again : (xs : List ℕ) → without_front (without_front xs) ≡ without_fro
 cut_again [] = refl
 cut_again (x ∷ xs) = cut_more x xs (x == 32) refl (cut_again xs)
   where
-    cut_more : (x : ℕ) (xs : List ℕ) (k : Bool) → (x == 32) ≡ k → without_front (without_front xs) ≡ without_front xs → without_front (without_front (x ∷ xs)) ≡ without_front (x ∷ xs)
+    cut_more : (x : ℕ) (xs : List ℕ) (k : Bool) → (x == 32) ≡ k → without_front (without_front xs) ≡ without_front xs
+        → without_front (without_front (x ∷ xs)) ≡ without_front (x ∷ xs)
     cut_more x xs true e h =
         let cut : without_front (x ∷ xs) ≡ without_front xs = ap (λ k. cond k (without_front xs) (x ∷ xs)) e in
         ap without_front cut ∙ h ∙ sym cut
@@ -75,7 +77,8 @@ clean_front : (xs ys : List ℕ) → without_front (xs ++ ys) ≡ xs ++ ys → w
 clean_front [] ys h = refl
 clean_front (x ∷ xs) ys h = clean_more x xs ys (x == 32) refl h
   where
-    clean_more : (x : ℕ) (xs ys : List ℕ) (k : Bool) → (x == 32) ≡ k → without_front (x ∷ xs ++ ys) ≡ x ∷ xs ++ ys → without_front (x ∷ xs) ≡ x ∷ xs
+    clean_more : (x : ℕ) (xs ys : List ℕ) (k : Bool) → (x == 32) ≡ k → without_front (x ∷ xs ++ ys) ≡ x ∷ xs ++ ys
+        → without_front (x ∷ xs) ≡ x ∷ xs
     clean_more x xs ys true e h =
         let cut : without_front (xs ++ ys) ≡ x ∷ (xs ++ ys) = sym (ap (λ k. cond k (without_front (xs ++ ys)) (x ∷ (xs ++ ys))) e) ∙ h in
         absurd (omega (arith, ap length cut, shorter (xs ++ ys)))
@@ -87,7 +90,8 @@ trimmed_twice text =
     let back : List ℕ = without_front (reverse start) in
     let cut = front_of_all (reverse start) in
     let whole : start ≡ reverse back ++ reverse cut.0 = sym (reverse-reverse start) ∙ ap reverse cut.1 ∙ reverse-append cut.0 back in
-    let clean : without_front (reverse back ++ reverse cut.0) ≡ reverse back ++ reverse cut.0 = ap without_front (sym whole) ∙ cut_again text ∙ whole in
+    let clean : without_front (reverse back ++ reverse cut.0) ≡ reverse back ++ reverse cut.0 =
+    ap without_front (sym whole) ∙ cut_again text ∙ whole in
     ap (λ t. reverse (without_front (reverse t))) (clean_front (reverse back) (reverse cut.0) clean)
     ∙ ap (λ t. reverse (without_front t)) (reverse-reverse back)
     ∙ ap reverse (cut_again (reverse start))
@@ -97,15 +101,18 @@ all_reversed [] h = refl
 all_reversed (x ∷ xs) h =
     let parts = and_parts (x == space) (list_all (is_byte space) xs) h in
     ap (list_all (is_byte space)) (reverse-append (x ∷ []) xs) ∙ list_all-append (is_byte space) (reverse xs) (x ∷ [])
-    ∙ and_from (list_all (is_byte space) (reverse xs)) ((x == space) && true) (all_reversed xs parts.1) (and_from (x == space) true parts.0 refl)
+    ∙ and_from (list_all (is_byte space) (reverse xs)) ((x == space) && true) (all_reversed xs parts.1)
+    (and_from (x == space) true parts.0 refl)
 
 -- a text is what is trimmed, with spaces around it
-pub trimmed_whole : (text : List ℕ) → (front : List ℕ) × (back : List ℕ) × (text ≡ front ++ (trimmed text ++ back)) × (list_all (is_byte space) (front ++ back) ≡ true)
+pub trimmed_whole : (text : List ℕ)
+    → (front : List ℕ) × (back : List ℕ) × (text ≡ front ++ (trimmed text ++ back)) × (list_all (is_byte space) (front ++ back) ≡ true)
 trimmed_whole text =
     let start : List ℕ = without_front text in
     let first = front_of_all text in
     let last = front_of_all (reverse start) in
-    let whole : start ≡ trimmed text ++ reverse last.0 = sym (reverse-reverse start) ∙ ap reverse last.1 ∙ reverse-append last.0 (without_front (reverse start)) in
+    let whole : start ≡ trimmed text ++ reverse last.0 =
+    sym (reverse-reverse start) ∙ ap reverse last.1 ∙ reverse-append last.0 (without_front (reverse start)) in
     let spaces = list_all-append (is_byte space) first.0 (reverse last.0)
     ∙ and_from (list_all (is_byte space) first.0) (list_all (is_byte space) (reverse last.0)) first.2 (all_reversed last.0 last.2) in
     (first.0, reverse last.0, first.1 ∙ ap (λ rest. first.0 ++ rest) whole, spaces)

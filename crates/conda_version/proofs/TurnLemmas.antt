@@ -55,7 +55,8 @@ letters_of (x ∷ xs) h k =
 
 -- ---- the runs of a text take turns
 
-turns_other : (k : Bool) (rest : List ℕ) → OtherKind k rest → TakeTurns (begins_with_digit rest) (runs_of rest) → TakeTurns (not k) (runs_of rest)
+turns_other : (k : Bool) (rest : List ℕ) → OtherKind k rest → TakeTurns (begins_with_digit rest) (runs_of rest)
+    → TakeTurns (not k) (runs_of rest)
 turns_other k [] o h = tt
 turns_other k (b ∷ bs) o h = subst (λ d. TakeTurns d (runs_of (b ∷ bs))) o h
 
@@ -70,19 +71,22 @@ first_is (b ∷ bs) some short chars = by_kind (is_ascii_digit b) refl
         let begins : begins_with_digit (take (run_len (b ∷ bs)) (b ∷ bs)) ≡ true = ap (λ n. begins_with_digit (take n (b ∷ bs))) len ∙ e in
         let value = first_run_value (b ∷ bs) short begins in
         let digits : is_digits (take (run_len (b ∷ bs)) (b ∷ bs)) ≡ true =
-        ap (λ n. is_digits (take n (b ∷ bs))) len ∙ digits_from (b ∷ take m bs) (sym (ap (λ n. list_all is_ascii_digit (take n (b ∷ bs))) len) ∙ value.0) in
+        ap (λ n. is_digits (take n (b ∷ bs))) len
+        ∙ digits_from (b ∷ take m bs) (sym (ap (λ n. list_all is_ascii_digit (take n (b ∷ bs))) len) ∙ value.0) in
         subst (λ k. IsRun k (take (run_len (b ∷ bs)) (b ∷ bs))) (sym e) (digits, value.1)
     by_kind false e =
         let w : List ℕ = b ∷ bs in
         let n : ℕ = run_len w in
         let m : ℕ = prefix_len (like (is_ascii_digit b)) bs in
         let len : run_len (b ∷ bs) ≡ suc m = ap (λ k. cond k (1 + m) 0) (beq_self (is_ascii_digit b)) ∙ omega arith in
-        let kinds : list_all (like false) (take n w) ≡ true = ap (λ k. list_all (like k) (take n w)) (sym e) ∙ all_of_prefix (like (is_ascii_digit b)) w in
+        let kinds : list_all (like false) (take n w) ≡ true =
+        ap (λ k. list_all (like k) (take n w)) (sym e) ∙ all_of_prefix (like (is_ascii_digit b)) w in
         let letters = letters_of (take n w) (all_take is_piece_char n w chars).0 kinds in
         let long : 0 < length (take n w) = subst (λ i. 0 < length (take i w)) (sym len) (omega arith) in
         subst (λ k. IsRun k (take n w)) (sym e) (long, letters)
 
-turns_of : (n : ℕ) (w : List ℕ) → length w ≤ n → HasShortRuns w → list_all is_piece_char w ≡ true → TakeTurns (begins_with_digit w) (runs_of w)
+turns_of : (n : ℕ) (w : List ℕ) → length w ≤ n → HasShortRuns w → list_all is_piece_char w ≡ true
+    → TakeTurns (begins_with_digit w) (runs_of w)
 turns_of n [] h short chars = tt
 turns_of zero (b ∷ bs) h short chars = absurd (omega arith)
 turns_of (suc n) (b ∷ bs) h short chars =
@@ -181,7 +185,8 @@ digits_within [] [] o = omega arith
 digits_within [] (b ∷ bs) o = omega (arith, ap (λ k. cond k (1 + prefix_len is_ascii_digit bs) 0) o)
 digits_within (b ∷ run) more o = by_kind (is_ascii_digit b) (digits_within run more o)
   where
-    by_kind : (k : Bool) → prefix_len is_ascii_digit (run ++ more) ≤ length run → cond k (1 + prefix_len is_ascii_digit (run ++ more)) 0 ≤ suc (length run)
+    by_kind : (k : Bool) → prefix_len is_ascii_digit (run ++ more) ≤ length run
+        → cond k (1 + prefix_len is_ascii_digit (run ++ more)) 0 ≤ suc (length run)
     by_kind true h = omega arith
     by_kind false h = omega arith
 
@@ -190,7 +195,8 @@ numeral_front [] more h o short i = short i
 numeral_front (b ∷ run) more h o short zero = omega (arith, digits_within (b ∷ run) more o)
 numeral_front (b ∷ run) more h o short (suc i) = numeral_front run more (omega arith) o short i
 
-before_within : (xs : List ℕ) (c : ℕ) (ys : List ℕ) → is_ascii_digit c ≡ false → prefix_len is_ascii_digit (xs ++ c ∷ ys) ≡ prefix_len is_ascii_digit xs
+before_within : (xs : List ℕ) (c : ℕ) (ys : List ℕ) → is_ascii_digit c ≡ false
+    → prefix_len is_ascii_digit (xs ++ c ∷ ys) ≡ prefix_len is_ascii_digit xs
 before_within [] c ys e = ap (λ k. cond k (1 + prefix_len is_ascii_digit ys) 0) e
 before_within (x ∷ xs) c ys e = ap (λ n. cond (is_ascii_digit x) (1 + n) 0) (before_within xs c ys e)
 
@@ -201,7 +207,8 @@ before_each (x ∷ xs) c ys e h k zero = omega (arith, before_within (x ∷ xs) 
 before_each (x ∷ xs) c ys e h k (suc i) = before_each xs c ys e (λ j. h (suc j)) k i
 
 -- two texts with a character between them that is no digit
-pub short_before : (xs : List ℕ) (c : ℕ) (ys : List ℕ) → is_ascii_digit c ≡ false → HasShortRuns xs → HasShortRuns ys → HasShortRuns (xs ++ c ∷ ys)
+pub short_before : (xs : List ℕ) (c : ℕ) (ys : List ℕ) → is_ascii_digit c ≡ false → HasShortRuns xs → HasShortRuns ys
+    → HasShortRuns (xs ++ c ∷ ys)
 short_before xs c ys e h k = record { each = before_each xs c ys e h.each k.each }
 
 short_turns : (k : Bool) (runs : List (List ℕ)) → TakeTurns k runs → Short (concat runs)

@@ -38,7 +38,8 @@ pieces_free : (xs : List ℕ) → AllByRecursion (IsFreeOf dot) (dotted_parts xs
 pieces_free [] = (tt, tt)
 pieces_free (b ∷ bs) = by_dot (b == dot) refl (dotted_parts bs) (pieces_free bs)
   where
-    by_dot : (k : Bool) → (b == dot) ≡ k → (ps : List (List ℕ)) → AllByRecursion (IsFreeOf dot) ps → AllByRecursion (IsFreeOf dot) (cond k ([] ∷ ps) (onto_first b ps))
+    by_dot : (k : Bool) → (b == dot) ≡ k → (ps : List (List ℕ)) → AllByRecursion (IsFreeOf dot) ps
+        → AllByRecursion (IsFreeOf dot) (cond k ([] ∷ ps) (onto_first b ps))
     by_dot true e ps h = (tt, h)
     by_dot false e [] h = ((e, tt), tt)
     by_dot false e (p ∷ ps) h = ((e, h.0), h.1)
@@ -47,7 +48,8 @@ piece_chars : (xs : List ℕ) → list_all is_part_char xs ≡ true → IsFreeOf
 piece_chars [] h free = refl
 piece_chars (b ∷ bs) h free =
     let chars = and_parts (is_part_char b) (list_all is_part_char bs) h in
-    and_from (is_piece_char b) (list_all is_piece_char bs) (no_dot (is_piece_char b) (b == dot) chars.0 free.0) (piece_chars bs chars.1 free.1)
+    and_from (is_piece_char b) (list_all is_piece_char bs) (no_dot (is_piece_char b) (b == dot) chars.0 free.0)
+    (piece_chars bs chars.1 free.1)
   where
     no_dot : (p d : Bool) → (p || d) ≡ true → d ≡ false → p ≡ true
     no_dot true d h e = refl
@@ -66,7 +68,8 @@ some_of xs at next h = by_test (length xs == 0) refl h
     by_test true e h = absurd cc
     by_test false e h = (has_some xs e, h)
 
-joined_sound : (at : ℕ) (ps : List (List ℕ)) → 0 < length ps → HasShortRuns (join_with_byte dot ps) → list_all is_part_char (join_with_byte dot ps) ≡ true
+joined_sound : (at : ℕ) (ps : List (List ℕ)) → 0 < length ps → HasShortRuns (join_with_byte dot ps)
+    → list_all is_part_char (join_with_byte dot ps) ≡ true
     → AllByRecursion (IsFreeOf dot) ps → empty_from at ps ≡ None → AreComponents (join_with_byte dot ps) (map component_of ps)
 joined_sound at [] some short chars free none = absurd (omega arith)
 joined_sound at (p ∷ []) some short chars free none = component_sound p (some_of p at None none).0 short (piece_chars p chars free.0)
@@ -78,15 +81,18 @@ joined_sound at (p ∷ q ∷ ps) some short chars free none =
       rest,
       refl,
       component_sound p next.0 (short_front p (dot ∷ rest) short) (piece_chars p parts.0 free.0),
-      joined_sound (at + length p + 1) (q ∷ ps) (omega arith) (short_back (dot ∷ []) rest (short_back p (dot ∷ rest) short)) parts.1 free.1 next.1,
+      joined_sound (at + length p + 1) (q ∷ ps) (omega arith)
+          (short_back (dot ∷ []) rest (short_back p (dot ∷ rest) short)) parts.1 free.1 next.1,
     )
 
-pub part_sound : (at : ℕ) (dotted : List ℕ) → HasShortRuns dotted → list_all is_part_char dotted ≡ true → empty_from at (dotted_parts dotted) ≡ None → AreComponents dotted (components_of dotted)
+pub part_sound : (at : ℕ) (dotted : List ℕ) → HasShortRuns dotted → list_all is_part_char dotted ≡ true
+    → empty_from at (dotted_parts dotted) ≡ None → AreComponents dotted (components_of dotted)
 part_sound at dotted short chars none =
     let whole : join_with_byte dot (dotted_parts dotted) ≡ dotted = join_with_byte-slice_split dot dotted in
     let some : 0 < length (dotted_parts dotted) = omega (arith, length-slice_split (is_byte dot) dotted) in
     subst (λ text. AreComponents text (components_of dotted)) whole
-    (joined_sound at (dotted_parts dotted) some (subst HasShortRuns (sym whole) short) (ap (list_all is_part_char) whole ∙ chars) (pieces_free dotted) none)
+    (joined_sound at (dotted_parts dotted) some (subst HasShortRuns (sym whole) short) (ap (list_all is_part_char) whole ∙ chars)
+    (pieces_free dotted) none)
 
 -- ---- how texts end
 
@@ -122,7 +128,8 @@ pub record IsDotted (text : List ℕ) (components : List (List Run)) : Type 0 wh
 
 split_front : (front rest : List ℕ) → IsFreeOf dot front → dotted_parts (front ++ dot ∷ rest) ≡ front ∷ dotted_parts rest
 split_front [] rest h = refl
-split_front (b ∷ front) rest h = slice_split-cons_no (is_byte dot) b (front ++ dot ∷ rest) h.0 ∙ ap (onto_first b) (split_front front rest h.1)
+split_front (b ∷ front) rest h =
+    slice_split-cons_no (is_byte dot) b (front ++ dot ∷ rest) h.0 ∙ ap (onto_first b) (split_front front rest h.1)
 
 split_free : (xs : List ℕ) → IsFreeOf dot xs → dotted_parts xs ≡ xs ∷ []
 split_free [] h = refl
@@ -164,7 +171,8 @@ part_again text (component ∷ next ∷ more) h =
     let split = split_front front rest (piece_free front piece.chars) in
     subst (λ t. IsDotted t (component ∷ next ∷ more)) (sym h.2) (record {
       value = ap (map component_of) split ∙ ap (λ c. c ∷ components_of rest) piece.value ∙ ap (λ cs. component ∷ cs) behind.value;
-      none = λ at. ap (empty_from at) split ∙ none_of front at (empty_from (at + length front + 1) (dotted_parts rest)) piece.some (behind.none (at + length front + 1));
+      none = λ at. ap (empty_from at) split
+          ∙ none_of front at (empty_from (at + length front + 1) (dotted_parts rest)) piece.some (behind.none (at + length front + 1));
       some = long front rest;
       short = short_before front dot rest refl piece.short behind.short;
       chars = all_both is_part_char front (dot ∷ rest) (all_as is_piece_char is_part_char part_char front piece.chars) behind.chars;
@@ -200,7 +208,9 @@ sound_from text h =
     let marks = first_none (marks_fault text) late h in
     let components = first_none (because Component (component_fault text)) (because Numeral (numeral_from 0 text)) marks.1 in
     let behind : Option (ℕ × VersionWhy) = option_or (because Epoch (epoch_fault text)) (because Local (local_fault text)) in
-    let chars = first_none (because Char (char_fault text)) behind (first_none (because Empty (empty_fault text)) (option_or (because Char (char_fault text)) behind) marks.0).1 in
+    let chars =
+    first_none (because Char (char_fault text)) behind
+    (first_none (because Empty (empty_fault text)) (option_or (because Char (char_fault text)) behind) marks.0).1 in
     let parts = first_none (because Epoch (epoch_fault text)) (because Local (local_fault text)) chars.1 in
     let empties = first_none (empty_from (main_start text) (dotted_parts (main_dots (main_part text))))
     (option_and_then (empty_local text) (local_part text))
@@ -242,7 +252,8 @@ part_chars : (xs : List ℕ) → list_all is_plain xs ≡ true → IsFreeOf excl
 part_chars [] h e p = refl
 part_chars (b ∷ bs) h e p =
     let chars = and_parts (is_plain b) (list_all is_plain bs) h in
-    and_from (is_part_char b) (list_all is_part_char bs) (no_mark (is_part_char b) (b == plus) (b == exclamation) chars.0 e.0 p.0) (part_chars bs chars.1 e.1 p.1)
+    and_from (is_part_char b) (list_all is_part_char bs) (no_mark (is_part_char b) (b == plus) (b == exclamation) chars.0 e.0 p.0)
+    (part_chars bs chars.1 e.1 p.1)
   where
     no_mark : (part p e : Bool) → (part || p || e) ≡ true → e ≡ false → p ≡ false → part ≡ true
     no_mark true p e h f g = refl
@@ -262,7 +273,8 @@ main_chars (x ∷ []) = refl
 main_chars (x ∷ y ∷ xs) =
     ap (λ k. k && list_all is_part_char (main_dots (y ∷ xs))) (dot_char x) ∙ ap (λ k. is_part_char x && k) (main_chars (y ∷ xs))
 
-local_sound_of : (text : List ℕ) (local : Option (List ℕ)) → list_all is_plain (local_text local) ≡ true → IsFreeOf exclamation (local_text local)
+local_sound_of : (text : List ℕ) (local : Option (List ℕ)) → list_all is_plain (local_text local) ≡ true
+    → IsFreeOf exclamation (local_text local)
     → IfSome local (IsFreeOf plus) → IfSome (option_map (map as_dot) local) HasShortRuns
     → option_and_then (empty_local text) local ≡ None
     → IsLocal local (option_map_or (λ local. components_of (map as_dot local)) local [])
@@ -287,7 +299,8 @@ version_sound cuts text h =
     let whole = parts_whole cuts text in
     let chars : list_all is_plain (epoch_text (epoch_part text) ++ (main ++ local_text local)) ≡ true =
     ap (list_all is_plain) (sym whole) ∙ plain_from text sound.chars in
-    let parts = all_front is_plain main (local_text local) (all_front is_plain (epoch_text (epoch_part text)) (main ++ local_text local) chars).1 in
+    let parts =
+    all_front is_plain main (local_text local) (all_front is_plain (epoch_text (epoch_part text)) (main ++ local_text local) chars).1 in
     let free = free_back exclamation main (local_text local) (subst (IsFreeOf exclamation) (rest_is cuts text) epochs.1) in
     record {
       epoch = epoch_part text;
@@ -295,7 +308,8 @@ version_sound cuts text h =
       local = local;
       whole = whole;
       epoch_means = epoch_sound_of cuts text (epoch_part text) refl sound.epoch short epochs.0;
-      main_means = part_sound (main_start text) (main_dots main) (short_main cuts text short) (main_chars main ∙ part_chars main parts.0 free.0 locals.0) sound.main_components;
+      main_means = part_sound (main_start text) (main_dots main) (short_main cuts text short)
+          (main_chars main ∙ part_chars main parts.0 free.0 locals.0) sound.main_components;
       local_means = local_sound_of text local parts.1 free.1 locals.1 (short_local cuts text short) sound.local_components;
     }
 
@@ -329,7 +343,8 @@ free_both c (x ∷ xs) ys h k = (h.0, free_both c xs ys h.1 k)
 numeral_none : (at : ℕ) (text : List ℕ) → ((i : ℕ) → prefix_len is_ascii_digit (drop i text) ≤ 38) → numeral_from at text ≡ None
 numeral_none at [] h = refl
 numeral_none at (b ∷ bs) h =
-    ap (λ k. cond k (Some at) (numeral_from (at + 1) bs)) (few (prefix_len is_ascii_digit (b ∷ bs)) (h 0)) ∙ numeral_none (at + 1) bs (λ i. h (suc i))
+    ap (λ k. cond k (Some at) (numeral_from (at + 1) bs)) (few (prefix_len is_ascii_digit (b ∷ bs)) (h 0))
+    ∙ numeral_none (at + 1) bs (λ i. h (suc i))
   where
     few : (n : ℕ) → n ≤ 38 → nat_lt 38 n ≡ false
     few n h = grind (arith, nat_tests)
@@ -338,7 +353,8 @@ no_bad_char : (text : List ℕ) → list_all is_plain text ≡ true → char_fau
 no_bad_char text h = let len = len_of_all is_plain text h in grind (arith, nat_tests, len)
 
 short_numeral : (digits : List ℕ) → IsNumeral digits → HasShortRuns digits
-short_numeral digits h = record { each = λ i. omega (arith, prefix_len-le-length is_ascii_digit (drop i digits), length-drop i digits, h.1) }
+short_numeral digits h =
+    record { each = λ i. omega (arith, prefix_len-le-length is_ascii_digit (drop i digits), length-drop i digits, h.1) }
 
 short_undotted : (text : List ℕ) → HasShortRuns (map as_dot text) → HasShortRuns text
 short_undotted text short = record { each = λ i. omega (arith, prefix_of_dots i text, short.each i) }
@@ -359,7 +375,8 @@ text_of : (local : Option (List ℕ)) (main : List ℕ) → option_map second_ha
 text_of None main = refl
 text_of (Some part) main = refl
 
-main_of : (local : Option (List ℕ)) (main rest : List ℕ) → rest ≡ main ++ local_text local → option_map_or first_half (option_map (λ part. (main, part)) local) rest ≡ main
+main_of : (local : Option (List ℕ)) (main rest : List ℕ) → rest ≡ main ++ local_text local
+    → option_map_or first_half (option_map (λ part. (main, part)) local) rest ≡ main
 main_of None main rest h = h ∙ append-nil main
 main_of (Some part) main rest h = refl
 
@@ -386,7 +403,8 @@ some_rest (b ∷ main) back h = omega arith
 -- the epoch of the grammar
 record IsFront (epoch : Option (List ℕ)) (value : ℕ) : Type 0 where
   number : option_map_or (digits_value 10) epoch 0 ≡ value
-  parts : (rest : List ℕ) → IsFreeOf exclamation rest → cut_first exclamation (epoch_text epoch ++ rest) ≡ option_map (λ digits. (digits, rest)) epoch
+  parts : (rest : List ℕ) → IsFreeOf exclamation rest
+      → cut_first exclamation (epoch_text epoch ++ rest) ≡ option_map (λ digits. (digits, rest)) epoch
   good : (rest : List ℕ) → IsFreeOf exclamation rest
       → option_and_then fault_at_epoch (option_map (λ digits. (digits, rest)) epoch) ≡ None
   short : (rest : List ℕ) → HasShortRuns rest → HasShortRuns (epoch_text epoch ++ rest)
@@ -406,10 +424,13 @@ front_again cuts (Some digits) number h =
     let regroup = λ (rest : List ℕ). append_assoc digits (exclamation ∷ []) rest in
     record {
       number = sym h.1;
-      parts = λ rest free. ap (cut_first exclamation) (regroup rest) ∙ (cuts.first exclamation (digits ++ exclamation ∷ rest) digits rest).1 (refl, part_free exclamation no_exclamation digits chars);
+      parts = λ rest free. ap (cut_first exclamation) (regroup rest)
+          ∙ (cuts.first exclamation (digits ++ exclamation ∷ rest) digits rest).1 (refl, part_free exclamation no_exclamation digits chars);
       good = λ rest free.
-          ap (λ k. cond k (mark_from exclamation (length digits + 1) rest) (Some (length digits))) h.0.0 ∙ mark_free exclamation (length digits + 1) rest free;
-      short = λ rest short. subst HasShortRuns (sym (regroup rest)) (short_before digits exclamation rest refl (short_numeral digits h.0) short);
+          ap (λ k. cond k (mark_from exclamation (length digits + 1) rest) (Some (length digits))) h.0.0
+          ∙ mark_free exclamation (length digits + 1) rest free;
+      short = λ rest short. subst HasShortRuns (sym (regroup rest))
+          (short_before digits exclamation rest refl (short_numeral digits h.0) short);
       chars = all_both is_plain digits (exclamation ∷ []) (all_as is_part_char is_plain plain_part digits chars) refl;
     }
 
@@ -450,7 +471,8 @@ back_again cuts (Some part) components h =
       short = λ main short. short_before main plus part refl short (short_undotted part dotted.short);
       chars = all_as is_part_char is_plain plain_part part chars;
       ends = λ main h.
-          ends_back dot main (plus ∷ part) (omega arith) ∙ ends_back dot (plus ∷ []) part (some_undotted part dotted.some) ∙ ends_undotted part dotted.ends;
+          ends_back dot main (plus ∷ part) (omega arith) ∙ ends_back dot (plus ∷ []) part (some_undotted part dotted.some)
+          ∙ ends_undotted part dotted.ends;
     }
 
 pub record IsRead (text : List ℕ) (version : Meaning) : Type 0 where
@@ -460,9 +482,11 @@ pub record IsRead (text : List ℕ) (version : Meaning) : Type 0 where
 
 no_fault : (text : List ℕ) → IsSound text → empty_fault text ≡ None → fault text ≡ None
 no_fault text sound some =
-    let components : component_fault text ≡ None = ap (λ o. option_or o (option_and_then (empty_local text) (local_part text))) sound.main_components ∙ sound.local_components in
+    let components : component_fault text ≡ None =
+    ap (λ o. option_or o (option_and_then (empty_local text) (local_part text))) sound.main_components ∙ sound.local_components in
     let marks : marks_fault text ≡ None =
-    ap (λ o. option_or (because Empty o) (option_or (because Char (char_fault text)) (option_or (because Epoch (epoch_fault text)) (because Local (local_fault text))))) some
+    ap (λ o. option_or (because Empty o)
+    (option_or (because Char (char_fault text)) (option_or (because Epoch (epoch_fault text)) (because Local (local_fault text))))) some
     ∙ ap (λ o. option_or (because Char o) (option_or (because Epoch (epoch_fault text)) (because Local (local_fault text)))) sound.chars
     ∙ ap (λ o. option_or (because Epoch o) (because Local (local_fault text))) sound.epoch
     ∙ ap (because Local) sound.local in
@@ -482,7 +506,8 @@ version_again cuts text version v =
     let front = front_again cuts v.epoch version.epoch v.epoch_means in
     let back = back_again cuts v.local version.local v.local_means in
     let chars : list_all is_part_char main ≡ true = sym (main_chars main) ∙ dotted.chars in
-    let free : IsFreeOf exclamation rest = free_both exclamation main (local_text v.local) (part_free exclamation no_exclamation main chars) back.free in
+    let free : IsFreeOf exclamation rest =
+    free_both exclamation main (local_text v.local) (part_free exclamation no_exclamation main chars) back.free in
     let first : cut_first exclamation whole ≡ option_map (λ digits. (digits, rest)) v.epoch = front.parts rest free in
     let behind : behind_epoch whole ≡ rest = ap (λ o. option_map_or second_half o whole) first ∙ behind_of v.epoch rest whole refl in
     let second : cut_first plus (behind_epoch whole) ≡ option_map (λ part. (main, part)) v.local =
@@ -492,7 +517,9 @@ version_again cuts text version v =
     let main_is : main_part whole ≡ main =
     ap (λ o. option_map_or first_half o (behind_epoch whole)) second ∙ main_of v.local main (behind_epoch whole) behind in
     let sound : IsSound whole = record {
-      chars = no_bad_char whole (all_both is_plain (epoch_text v.epoch) rest front.chars (all_both is_plain main (local_text v.local) (all_as is_part_char is_plain plain_part main chars) back.chars));
+      chars = no_bad_char whole
+          (all_both is_plain (epoch_text v.epoch) rest front.chars
+          (all_both is_plain main (local_text v.local) (all_as is_part_char is_plain plain_part main chars) back.chars));
       epoch = ap (option_and_then fault_at_epoch) first ∙ front.good rest free;
       local = ap (option_and_then (fault_at_local (main_start whole))) second
           ∙ back.good main (main_start whole) (some_main main dotted.some);
@@ -505,8 +532,14 @@ version_again cuts text version v =
     (ap (λ m. components_of (main_dots m)) main_is ∙ dotted.value)
     (ap (λ o. option_map_or (λ text. components_of (map as_dot text)) o []) local_is ∙ back.value) in
     let ends : ends_with dot whole ≡ false =
-    ends_back dot (epoch_text v.epoch) rest (some_rest main (local_text v.local) dotted.some) ∙ back.ends main (sym (ends_main main) ∙ dotted.ends) in
-    subst (λ t. IsRead t version) (sym v.whole) (record { good = no_fault whole sound (no_empty_fault (epoch_text v.epoch) main (local_text v.local) dotted.some); value = value; ends = ends })
+    ends_back dot (epoch_text v.epoch) rest (some_rest main (local_text v.local) dotted.some)
+    ∙ back.ends main (sym (ends_main main) ∙ dotted.ends) in
+    subst (λ t. IsRead t version) (sym v.whole)
+    (record {
+      good = no_fault whole sound (no_empty_fault (epoch_text v.epoch) main (local_text v.local) dotted.some);
+      value = value;
+      ends = ends;
+    })
 
 -- ---- what texts of versions hold
 
@@ -525,15 +558,22 @@ ends_mapped f same (x ∷ []) = same x
 ends_mapped f same (x ∷ y ∷ xs) = ends_step dot (f x) (f y) (map f xs) ∙ ends_mapped f same (y ∷ xs) ∙ sym (ends_step dot x y xs)
 
 pub version_end : Cuts → (text : List ℕ) → offence text ≡ None → ends_with dot text ≡ false
-version_end cuts text h = sym (by_dash (holds dash text && not (holds underscore text))) ∙ (version_again cuts (plain text) (meaning text) (version_sound cuts (plain text) h)).ends
+version_end cuts text h =
+    sym (by_dash (holds dash text && not (holds underscore text)))
+    ∙ (version_again cuts (plain text) (meaning text) (version_sound cuts (plain text) h)).ends
   where
-    by_dash : (k : Bool) → ends_with dot (if k then map (λ b. underscored (to_ascii_lowercase b)) text else map to_ascii_lowercase text) ≡ ends_with dot text
+    by_dash : (k : Bool) → ends_with dot
+        (if k then map (λ b. underscored (to_ascii_lowercase b)) text else map to_ascii_lowercase text) ≡ ends_with dot text
     by_dash true = ends_mapped (λ b. underscored (to_ascii_lowercase b)) dot_of_dash text
     by_dash false = ends_mapped to_ascii_lowercase dot_of_small text
 
 -- what two texts of the grammar mean decides
 pub order_means : Cuts → (x y : List ℕ) (v w : Meaning) → IsVersionText x v → IsVersionText y w → version_cmp x y ≡ meaning_cmp v w
-order_means cuts x y v w h k = ap (λ a. meaning_cmp a (meaning y)) (version_again cuts (plain x) v h).value ∙ ap (meaning_cmp v) (version_again cuts (plain y) w k).value
+order_means cuts x y v w h k =
+    ap (λ a. meaning_cmp a (meaning y)) (version_again cuts (plain x) v h).value
+    ∙ ap (meaning_cmp v) (version_again cuts (plain y) w k).value
 
 pub starts_means : Cuts → (x y : List ℕ) (v w : Meaning) → IsVersionText x v → IsVersionText y w → version_starts x y ≡ meaning_starts v w
-starts_means cuts x y v w h k = ap (λ a. meaning_starts a (meaning y)) (version_again cuts (plain x) v h).value ∙ ap (meaning_starts v) (version_again cuts (plain y) w k).value
+starts_means cuts x y v w h k =
+    ap (λ a. meaning_starts a (meaning y)) (version_again cuts (plain x) v h).value
+    ∙ ap (meaning_starts v) (version_again cuts (plain y) w k).value

@@ -119,7 +119,9 @@ abbrev pub empty_local : List ℕ → List ℕ → Option ℕ
 empty_local text local = empty_from (length text - length local) (dotted_parts (map as_dot local))
 
 abbrev pub component_fault : List ℕ → Option ℕ
-component_fault text = option_or (empty_from (main_start text) (dotted_parts (main_dots (main_part text)))) (option_and_then (empty_local text) (local_part text))
+component_fault text =
+    option_or (empty_from (main_start text) (dotted_parts (main_dots (main_part text))))
+    (option_and_then (empty_local text) (local_part text))
 
 -- the first place from which more than 38 digits stand in a row
 abbrev pub numeral_from : ℕ → List ℕ → Option ℕ

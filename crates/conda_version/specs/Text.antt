@@ -24,4 +24,6 @@ underscored b = if b == dash then underscore else b
 
 -- The text in lower case. Where it holds `-` and no `_`, each `-` is read as `_`.
 abbrev pub plain : List ℕ → List ℕ
-plain text = if holds dash text && not (holds underscore text) then map (λ b. underscored (to_ascii_lowercase b)) text else map to_ascii_lowercase text
+plain text =
+    if holds dash text && not (holds underscore text) then map (λ b. underscored (to_ascii_lowercase b)) text
+    else map to_ascii_lowercase text

@@ -109,7 +109,8 @@ not_less n m h = grind (arith, nat_tests)
 
 module _ (line : Option ℕ) (known : List (List ℕ)) (nested : Option ℕ) where
   begun_is : (verb : Verb) (words : Words) → begun line known nested verb ≡ reading_of line known nested verb words []
-  begun_is verb words = ap (λ t. record (begun line known nested verb) { command = record (plain_command verb) { words = t } }) (no_plain words)
+  begun_is verb words =
+      ap (λ t. record (begun line known nested verb) { command = record (plain_command verb) { words = t } }) (no_plain words)
 
   -- the reading of a command of these items
   abbrev pub reading_by : Command → List Item → Reading
@@ -154,20 +155,30 @@ module _ (line : Option ℕ) (known : List (List ℕ)) (nested : Option ℕ) whe
     pub few : length (known_with known r.command.prefixes) ≤ 64
     pub all : r ≡ reading_by r.command command.is
 
-  module _ (cut_whole : (text before behind : List ℕ) → cut_first equals text ≡ Some (before, behind) → text ≡ before ++ equals ∷ behind) where
-    row_as : (name : List ℕ) (rest : List (List ℕ)) (r : Reading) (row : Option Subcommand) → length known ≤ 64 → subcommand_of (is_some line) name ≡ row
+  module _ (cut_whole : (text before behind : List ℕ) → cut_first equals text ≡ Some (before, behind)
+      → text ≡ before ++ equals ∷ behind) where
+    row_as : (name : List ℕ) (rest : List (List ℕ)) (r : Reading) (row : Option Subcommand) → length known ≤ 64
+        → subcommand_of (is_some line) name ≡ row
         → named_read line known nested row rest ≡ Ok r → IsReadAs (name ∷ rest) r
     row_as name rest r None few row h = cc
     row_as name rest r (Some sub) few row h =
         let is = items sub false 1 rest in
         let words = words_taken sub is in
-        let whole = unless_ok (rest_fault sub is (length rest + 1)) (reading_by (said sub is) is) r (sym (finished_is sub is (length rest + 1)) ∙ h) in
-        let parts = or_none (first (item_fault sub words known) [] is) (missing (is_missing words is (said sub is)) (length rest + 1)) whole.0 in
+        let whole =
+        unless_ok (rest_fault sub is (length rest + 1)) (reading_by (said sub is) is) r (sym (finished_is sub is (length rest + 1)) ∙ h) in
+        let parts =
+        or_none (first (item_fault sub words known) [] is) (missing (is_missing words is (said sub is)) (length rest + 1)) whole.0 in
         let fit = fits sub words known [] is few parts.0 in
         let none = missing_none (is_missing words is (said sub is)) (length rest + 1) parts.1 in
-        let some = or_false (list_any (λ i. is_none i.value) is || (has_one_prefix (said sub is).verb && not (length (said sub is).prefixes == 1))) (nat_lt (count kinds.Word is) (least words)) none in
-        let there = or_false (list_any (λ i. is_none i.value) is) (has_one_prefix (said sub is).verb && not (length (said sub is).prefixes == 1)) some.0 in
-        let right = items_step line known nested sub.verb (record sub { words = words }) [] is ∙ ap (λ o. unless o (reading_by (said sub is) is)) parts.0 in
+        let some =
+        or_false (list_any (λ i. is_none i.value) is || (has_one_prefix (said sub is).verb && not (length (said sub is).prefixes == 1)))
+        (nat_lt (count kinds.Word is) (least words)) none in
+        let there =
+        or_false (list_any (λ i. is_none i.value) is)
+        (has_one_prefix (said sub is).verb && not (length (said sub is).prefixes == 1)) some.0 in
+        let right =
+        items_step line known nested sub.verb (record sub { words = words }) [] is
+        ∙ ap (λ o. unless o (reading_by (said sub is) is)) parts.0 in
         subst (IsReadAs (name ∷ rest)) whole.1 (record {
           command = record {
             name = name;
@@ -176,7 +187,9 @@ module _ (line : Option ℕ) (known : List (List ℕ)) (nested : Option ℕ) whe
             is = is;
             cut = refl;
             row = row;
-            grammar = items_cuts cut_whole sub 1 rest (right_whole (record sub { words = words }) [] (reading_of line known nested sub.verb words []) (reading_by (said sub is) is) is right there.0);
+            grammar = items_cuts cut_whole sub 1 rest
+                (right_whole (record sub { words = words }) [] (reading_of line known nested sub.verb words [])
+                (reading_by (said sub is) is) is right there.0);
             right = none_first (item_cause sub words) [] is fit.right;
             enough = at_least (count kinds.Word is) (least words) some.1;
             command = refl;
@@ -192,9 +205,11 @@ module _ (line : Option ℕ) (known : List (List ℕ)) (nested : Option ℕ) whe
     read_as (name ∷ rest) r few h = row_as name rest r (subcommand_of (is_some line) name) few refl h
 
   -- nothing is missing of a command
-  none_missing : (words : List (List ℕ)) (c : Command) (m : IsCommand (is_some line) words c) → is_missing (words_taken m.sub m.is) m.is c ≡ false
+  none_missing : (words : List (List ℕ)) (c : Command) (m : IsCommand (is_some line) words c)
+      → is_missing (words_taken m.sub m.is) m.is c ≡ false
   none_missing words c m =
-      ap (λ b. b || (has_one_prefix c.verb && not (length c.prefixes == 1)) || nat_lt (count kinds.Word m.is) (least (words_taken m.sub m.is)))
+      ap (λ b. b || (has_one_prefix c.verb && not (length c.prefixes == 1)) || nat_lt (count kinds.Word m.is)
+      (least (words_taken m.sub m.is)))
       (cuts_valued m.sub false 1 m.rest m.is m.grammar)
       ∙ ap (λ b. b || nat_lt (count kinds.Word m.is) (least (words_taken m.sub m.is))) (by (has_one_prefix c.verb) refl)
       ∙ not_less (count kinds.Word m.is) (least (words_taken m.sub m.is)) m.enough
@@ -203,7 +218,8 @@ module _ (line : Option ℕ) (known : List (List ℕ)) (nested : Option ℕ) whe
       by false e = refl
       by true e = let one = m.prefix e in ap (λ (ps : List (List ℕ)). not (length ps == 1)) one.1
 
-  pub command_reads : (words : List (List ℕ)) (c : Command) (m : IsCommand (is_some line) words c) → length (known_with known c.prefixes) ≤ 64
+  pub command_reads : (words : List (List ℕ)) (c : Command) (m : IsCommand (is_some line) words c)
+      → length (known_with known c.prefixes) ≤ 64
       → command_read line known nested words ≡ Ok (reading_by c m.is)
   unfolding command_read
   command_reads words c m few =
@@ -221,10 +237,12 @@ module _ (line : Option ℕ) (known : List (List ℕ)) (nested : Option ℕ) whe
 
   -- ---- the first fault
 
-  row_fault : (row : Option Subcommand) (rest : List (List ℕ)) (at : ℕ) (why : Why) → named_read line known nested row rest ≡ Err (at, why) → HasRowFault row known rest at why
+  row_fault : (row : Option Subcommand) (rest : List (List ℕ)) (at : ℕ) (why : Why) → named_read line known nested row rest ≡ Err (at, why)
+      → HasRowFault row known rest at why
   row_fault None rest at why h = err_pair 0 at whys.Unknown why h
   row_fault (Some sub) rest at why h =
-      by (first (item_fault sub words known) [] is) refl (unless_err (rest_fault sub is n) (reading_by (said sub is) is) (at, why) (sym (finished_is sub is n) ∙ h))
+      by (first (item_fault sub words known) [] is) refl
+      (unless_err (rest_fault sub is n) (reading_by (said sub is) is) (at, why) (sym (finished_is sub is n) ∙ h))
     where
       is : List Item
       is = items sub false 1 rest
@@ -235,7 +253,8 @@ module _ (line : Option ℕ) (known : List (List ℕ)) (nested : Option ℕ) whe
       n : ℕ
       n = length rest + 1
 
-      by : (o : Option Fault) → first (item_fault sub words known) [] is ≡ o → option_or o (missing (is_missing words is (said sub is)) n) ≡ Some (at, why)
+      by : (o : Option Fault) → first (item_fault sub words known) [] is ≡ o
+          → option_or o (missing (is_missing words is (said sub is)) n) ≡ Some (at, why)
           → IsFirstBad (item_fault sub words known) is at why ⊎ IsLacking sub known is n at why
       by (Some f) e g =
           let bad = some_first (item_fault sub words known) [] is (at, why) (e ∙ g) in
@@ -249,9 +268,15 @@ module _ (line : Option ℕ) (known : List (List ℕ)) (nested : Option ℕ) whe
           })
       by None e g =
           let found = missing_some (is_missing words is (said sub is)) n at why g in
-          inr (record { right = none_first (item_fault sub words known) [] is e; lacking = found.lacking; place = found.place; cause = found.cause })
+          inr (record {
+            right = none_first (item_fault sub words known) [] is e;
+            lacking = found.lacking;
+            place = found.place;
+            cause = found.cause;
+          })
 
-  fault_row : (row : Option Subcommand) (rest : List (List ℕ)) (at : ℕ) (why : Why) → HasRowFault row known rest at why → named_read line known nested row rest ≡ Err (at, why)
+  fault_row : (row : Option Subcommand) (rest : List (List ℕ)) (at : ℕ) (why : Why) → HasRowFault row known rest at why
+      → named_read line known nested row rest ≡ Err (at, why)
   fault_row None rest at why h = pair_err 0 at whys.Unknown why h
   fault_row (Some sub) rest at why h =
       finished_is sub (items sub false 1 rest) (length rest + 1)
@@ -263,21 +288,26 @@ module _ (line : Option ℕ) (known : List (List ℕ)) (nested : Option ℕ) whe
       words : Words
       words = words_taken sub (items sub false 1 rest)
 
-      by : IsFirstBad (item_fault sub words known) is at why ⊎ IsLacking sub known is (length rest + 1) at why → rest_fault sub is (length rest + 1) ≡ Some (at, why)
+      by : IsFirstBad (item_fault sub words known) is at why ⊎ IsLacking sub known is (length rest + 1) at why
+          → rest_fault sub is (length rest + 1) ≡ Some (at, why)
       by (inl b) =
           ap (λ o. option_or o (missing (is_missing words is (said sub is)) (length rest + 1)))
           (ap (first (item_fault sub words known) []) b.split
-          ∙ first_some (item_fault sub words known) [] b.front b.bad b.behind (at, why) (first_none (item_fault sub words known) [] b.front b.right) b.wrong)
+          ∙ first_some (item_fault sub words known) [] b.front b.bad b.behind (at, why)
+          (first_none (item_fault sub words known) [] b.front b.right) b.wrong)
       by (inr l) =
-          ap (λ o. option_or o (missing (is_missing words is (said sub is)) (length rest + 1))) (first_none (item_fault sub words known) [] is l.right)
+          ap (λ o. option_or o (missing (is_missing words is (said sub is)) (length rest + 1)))
+          (first_none (item_fault sub words known) [] is l.right)
           ∙ ap (λ b. missing b (length rest + 1)) l.lacking ∙ pair_some (length rest + 1) at whys.Missing why l.place l.cause
 
-  pub read_fault : (words : List (List ℕ)) (at : ℕ) (why : Why) → command_read line known nested words ≡ Err (at, why) → HasCommandFault (is_some line) known words at why
+  pub read_fault : (words : List (List ℕ)) (at : ℕ) (why : Why) → command_read line known nested words ≡ Err (at, why)
+      → HasCommandFault (is_some line) known words at why
   unfolding command_read
   read_fault [] at why h = err_pair 0 at whys.Missing why h
   read_fault (name ∷ rest) at why h = row_fault (subcommand_of (is_some line) name) rest at why h
 
-  pub fault_read : (words : List (List ℕ)) (at : ℕ) (why : Why) → HasCommandFault (is_some line) known words at why → command_read line known nested words ≡ Err (at, why)
+  pub fault_read : (words : List (List ℕ)) (at : ℕ) (why : Why) → HasCommandFault (is_some line) known words at why
+      → command_read line known nested words ≡ Err (at, why)
   unfolding command_read
   fault_read [] at why h = pair_err 0 at whys.Missing why h
   fault_read (name ∷ rest) at why h = fault_row (subcommand_of (is_some line) name) rest at why h

@@ -39,7 +39,11 @@ found_from start (word ∷ more) at h = by (is_empty word) refl h (found_from (s
         record {
           place = suc later.place;
           is = omega arith;
-          found = record { empty = later.found.empty; before = ap (λ b. b || list_any is_empty (take later.place more)) e ∙ later.found.before };
+          found = record {
+            empty = later.found.empty;
+            before = ap (λ b. b || list_any is_empty (take later.place more)) e
+                ∙ later.found.before;
+          };
         }
 
 none_from : (start : ℕ) (words : List (List ℕ)) → position_from is_empty start words ≡ None → list_any is_empty words ≡ false
@@ -67,7 +71,8 @@ no_empty_from : (start : ℕ) (words : List (List ℕ)) → list_any is_empty wo
 no_empty_from start [] h = refl
 no_empty_from start (word ∷ more) h = by (is_empty word) h (no_empty_from (start + 1) more)
   where
-    by : (k : Bool) → (k || list_any is_empty more) ≡ false → (list_any is_empty more ≡ false → position_from is_empty (start + 1) more ≡ None)
+    by : (k : Bool) → (k || list_any is_empty more) ≡ false
+        → (list_any is_empty more ≡ false → position_from is_empty (start + 1) more ≡ None)
         → cond k (Some start) (position_from is_empty (start + 1) more) ≡ None
     by true f rest = cc
     by false f rest = rest f
@@ -80,7 +85,8 @@ or_parts true b h = cc
 or_parts false b h = (refl, h)
 
 -- among fewer words none is empty
-pub fewer_empty : (n m : ℕ) (words : List (List ℕ)) → n ≤ m → list_any is_empty (take m words) ≡ false → list_any is_empty (take n words) ≡ false
+pub fewer_empty : (n m : ℕ) (words : List (List ℕ)) → n ≤ m → list_any is_empty (take m words) ≡ false
+    → list_any is_empty (take n words) ≡ false
 fewer_empty zero m words l h = refl
 fewer_empty (suc n) zero words l h = absurd (omega arith)
 fewer_empty (suc n) (suc m) [] l h = refl
@@ -107,7 +113,8 @@ empty_among (suc n) (suc at) (word ∷ more) h l = by (is_empty word) (empty_amo
     by false e = e
 
 -- where a word is empty, one is found
-pub empty_found : (words : List (List ℕ)) (at : ℕ) → slice_get words at ≡ Some [] → (first : ℕ) × (position is_empty words ≡ Some first) × (first ≤ at)
+pub empty_found : (words : List (List ℕ)) (at : ℕ) → slice_get words at ≡ Some []
+    → (first : ℕ) × (position is_empty words ≡ Some first) × (first ≤ at)
 empty_found words at h = by (position is_empty words) refl
   where
     by : (o : Option ℕ) → position is_empty words ≡ o → (first : ℕ) × (position is_empty words ≡ Some first) × (first ≤ at)

@@ -81,7 +81,8 @@ module _ {A X : Type 0} (ask : List A → A → Option X) where
             wrong = ap (λ b. ask b more.bad) (sym (append_assoc before (i ∷ []) more.front)) ∙ more.wrong;
           }
 
-  pub first_some : (before front : List A) (bad : A) (behind : List A) (x : X) → first before front ≡ None → ask (before ++ front) bad ≡ Some x
+  pub first_some : (before front : List A) (bad : A) (behind : List A) (x : X) → first before front ≡ None
+      → ask (before ++ front) bad ≡ Some x
       → first before (front ++ bad ∷ behind) ≡ Some x
   first_some before front bad behind x right wrong =
       first_append before front (bad ∷ behind) ∙ ap (λ o. option_or o (first (before ++ front) (bad ∷ behind))) right

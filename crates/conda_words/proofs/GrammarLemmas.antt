@@ -109,11 +109,13 @@ undashed_end (b ∷ rest) h = other (b == dash) refl
 
 -- ---- what the grammar cuts is cut so
 
-plain_facts : (sub : Subcommand) (plain : Bool) (at : ℕ) (word : List ℕ) → is_plain_word plain word ≡ true → (ends_options plain word ≡ false) × (takes_next sub plain word ≡ false)
+plain_facts : (sub : Subcommand) (plain : Bool) (at : ℕ) (word : List ℕ) → is_plain_word plain word ≡ true
+    → (ends_options plain word ≡ false) × (takes_next sub plain word ≡ false)
 plain_facts sub true at word p = (refl, refl)
 plain_facts sub false at word p = (undashed_end word p, ap has_value (own_strange sub word (undashed word p)))
 
-pub cuts_items : (sub : Subcommand) (plain : Bool) (at : ℕ) (words : List (List ℕ)) (is : List Item) → Cuts sub plain at words is → items sub plain at words ≡ is
+pub cuts_items : (sub : Subcommand) (plain : Bool) (at : ℕ) (words : List (List ℕ)) (is : List Item) → Cuts sub plain at words is
+    → items sub plain at words ≡ is
 unfolding items
 cuts_items sub plain at [] is (done _ _) = refl
 cuts_items sub plain at words is (ends _ word rest _ e more) =
@@ -121,13 +123,15 @@ cuts_items sub plain at words is (ends _ word rest _ e more) =
 cuts_items sub plain at words _ (plain_word _ _ word rest is p more) =
     let facts = plain_facts sub plain at word p in
     items_own sub plain at word rest facts.0 facts.1
-    ∙ ap (λ b. (if b then item kinds.Word at at (Some word) else dashed_item sub at word (cut_first equals word)) ∷ items sub plain (at + 1) rest) p
+    ∙ ap (λ b. (if b then item kinds.Word at at (Some word) else dashed_item sub at word (cut_first equals word)) ∷ items sub plain
+    (at + 1) rest) p
     ∙ ap (λ more_items. item kinds.Word at at (Some word) ∷ more_items) (cuts_items sub plain (at + 1) rest is more)
 cuts_items sub plain at words _ (flag _ word kind rest is s v more) =
     let own = spells_own sub word kind s in
     let look = dashed_spelling kind s.known in
     items_own sub false at word rest (ap (λ w. bytes_eq w (codes "--")) s.spelled ∙ look.no_end) (ap has_value own ∙ v)
-    ∙ ap (λ b. (if not b then item kinds.Word at at (Some word) else dashed_item sub at word (cut_first equals word)) ∷ items sub false (at + 1) rest) (ap (begins_with dash) s.spelled ∙ look.dashed)
+    ∙ ap (λ b. (if not b then item kinds.Word at at (Some word) else dashed_item sub at word (cut_first equals word)) ∷ items sub false
+    (at + 1) rest) (ap (begins_with dash) s.spelled ∙ look.dashed)
     ∙ ap (λ cut. dashed_item sub at word cut ∷ items sub false (at + 1) rest) (ap (cut_first equals) s.spelled ∙ uncut_flag kind s.known v)
     ∙ ap (λ k. item k at at (Some []) ∷ items sub false (at + 1) rest) own
     ∙ ap (λ more_items. item kind at at (Some []) ∷ more_items) (cuts_items sub false (at + 1) rest is more)
@@ -141,9 +145,12 @@ cuts_items sub plain at words _ (joined _ name kind value rest is s l more) =
     let look = long_form kind value l in
     let word = name ++ equals ∷ value in
     let same = ap (λ n. n ++ equals ∷ value) s.spelled in
-    items_own sub false at word rest (ap (λ w. bytes_eq w (codes "--")) same ∙ look.no_end) (ap has_value (own_strange sub word (ap option_of same ∙ look.no_option)))
-    ∙ ap (λ b. (if not b then item kinds.Word at at (Some word) else dashed_item sub at word (cut_first equals word)) ∷ items sub false (at + 1) rest) (ap (begins_with dash) same ∙ look.dashed)
-    ∙ ap (λ cut. dashed_item sub at word cut ∷ items sub false (at + 1) rest) (ap (cut_first equals) same ∙ look.cut ∙ ap (λ n. Some (n, value)) (sym s.spelled))
+    items_own sub false at word rest (ap (λ w. bytes_eq w (codes "--")) same ∙ look.no_end)
+    (ap has_value (own_strange sub word (ap option_of same ∙ look.no_option)))
+    ∙ ap (λ b. (if not b then item kinds.Word at at (Some word) else dashed_item sub at word (cut_first equals word)) ∷ items sub false
+    (at + 1) rest) (ap (begins_with dash) same ∙ look.dashed)
+    ∙ ap (λ cut. dashed_item sub at word cut ∷ items sub false (at + 1) rest)
+    (ap (cut_first equals) same ∙ look.cut ∙ ap (λ n. Some (n, value)) (sym s.spelled))
     ∙ ap (λ k. item (long_option k) at at (Some value) ∷ items sub false (at + 1) rest) (spells_own sub name kind s)
     ∙ ap (λ b. item (if b then kind else kinds.Strange) at at (Some value) ∷ items sub false (at + 1) rest) l
     ∙ ap (λ more_items. item kind at at (Some value) ∷ more_items) (cuts_items sub false (at + 1) rest is more)

@@ -34,11 +34,13 @@ later_alone (Some n) = refl
 abbrev after : Reading → Read Command Fault
 after r = unless (nested_fault r.nested) r.command
 
-module _ (cut_whole : (text before behind : List ℕ) → cut_first equals text ≡ Some (before, behind) → text ≡ before ++ equals ∷ behind) where
+module _ (cut_whole : (text before behind : List ℕ) → cut_first equals text ≡ Some (before, behind)
+    → text ≡ before ++ equals ∷ behind) where
   as_read : (words : List (List ℕ)) (r : Reading) → command_read None [] None words ≡ Ok r → IsReadAs None [] None words r
   as_read words r h = read_as None [] None cut_whole words r (lit≤ tt) h
 
-  nested_of : (words : List (List ℕ)) (r : Reading) (is : IsReadAs None [] None words r) → r.nested ≡ first (nested_behind None []) [] is.command.is
+  nested_of : (words : List (List ℕ)) (r : Reading) (is : IsReadAs None [] None words r)
+      → r.nested ≡ first (nested_behind None []) [] is.command.is
   nested_of words r is = ap (λ s. s.nested) is.all ∙ later_alone (first (nested_behind None []) [] is.command.is)
 
   pub meaning_of : (words : List (List ℕ)) (c : Command) → words_read words ≡ Ok c → Means words c
@@ -54,7 +56,8 @@ module _ (cut_whole : (text before behind : List ℕ) → cut_first equals text 
         apart = ap (λ (d : Command). are_apart (different d.prefixes)) is.command.command ∙ none_nested None [] [] is.command.is refl none;
       })
 
-  nested_at : (words : List (List ℕ)) (at : ℕ) (why : Why) → SecondErr (command_read None [] None words) after (at, why) → IsNestedAt words at why
+  nested_at : (words : List (List ℕ)) (at : ℕ) (why : Why) → SecondErr (command_read None [] None words) after (at, why)
+      → IsNestedAt words at why
   nested_at words at why s =
       let is = as_read words s.value s.first in
       let found = nested_some s.value.nested at why (unless_err (nested_fault s.value.nested) s.value.command (at, why) s.second) in
@@ -78,7 +81,8 @@ module _ (cut_whole : (text before behind : List ℕ) → cut_first equals text 
   unfolding words_read
   fault_of words at why h = by (bind_err (command_read None [] None words) after (at, why) h)
     where
-      by : (command_read None [] None words ≡ Err (at, why)) ⊎ SecondErr (command_read None [] None words) after (at, why) → HasFault words at why
+      by : (command_read None [] None words ≡ Err (at, why)) ⊎ SecondErr (command_read None [] None words) after (at, why)
+          → HasFault words at why
       by (inl e) = inl (read_fault None [] None words at why e)
       by (inr s) = inr (nested_at words at why s)
 
@@ -99,7 +103,8 @@ fault_read_at words at why (inr n) =
     (later_alone (first (nested_behind None []) [] n.command.is)
     ∙ ap (first (nested_behind None []) []) n.split
     ∙ first_some (nested_behind None []) [] n.front n.bad n.behind at (nested_none None [] [] n.front n.apart)
-    (nested_so None (known_behind [] n.front) n.bad n.apart (sym (ap are_apart (known_on [] n.front n.bad)) ∙ n.nested) ∙ ap (λ m. Some m) (sym n.place)))
+    (nested_so None (known_behind [] n.front) n.bad n.apart (sym (ap are_apart (known_on [] n.front n.bad)) ∙ n.nested)
+    ∙ ap (λ m. Some m) (sym n.place)))
     ∙ cause_pair (sym n.cause)
   where
     cause_pair : whys.Nested ≡ why → (let m : Read Command Fault = Err (at, whys.Nested) in m) ≡ Err (at, why)

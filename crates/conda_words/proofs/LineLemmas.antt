@@ -10,7 +10,7 @@ use Rattle.conda_base.specs.Reads.{Read, ◌>>=◌, unless}
 use Rattle.conda_base.specs.Signs.{equals, space}
 use Rattle.conda_base.specs.Texts.{cut_first, is_byte, is_empty}
 use Rattle.conda_words.specs.Grammar.{HasCommandFault, IsCommand}
-use Rattle.conda_words.specs.Lines.{AreLines, AreTaken, IsBadAt, IsBadFor, IsBadLine, IsFirstBadLine, IsLine, IsNestedLine, MeansLines, prefixes_of}
+use Rattle.conda_words.specs.Lines.{AreLines, AreTaken, IsBadAt, IsBadFor, IsBadLine, HasLineFault, IsLine, IsNestedLine, MeansLines, prefixes_of}
 use Rattle.conda_words.specs.Lines.AreLines.{end, line as one_line, passed}
 use Rattle.conda_words.specs.Lines.IsBadFor.{empty, own}
 use Rattle.conda_words.specs.Lines.IsBadLine.{bad as bad_words, late, unnumbered}
@@ -42,11 +42,13 @@ known_of lines = different (prefixes_of lines)
 
 known_line : (lines : List Line) (l : Line) → known_of (lines ++ l ∷ []) ≡ known_with (known_of lines) l.command.prefixes
 known_line lines l =
-    ap different (flat_map-append (λ l. l.command.prefixes) lines (l ∷ []) ∙ ap (λ ps. prefixes_of lines ++ ps) (append-nil l.command.prefixes))
+    ap different (flat_map-append (λ l. l.command.prefixes) lines (l ∷ [])
+    ∙ ap (λ ps. prefixes_of lines ++ ps) (append-nil l.command.prefixes))
     ∙ known_append [] (prefixes_of lines) l.command.prefixes
 
 known_lines : (lines more : List Line) → known_of (lines ++ more) ≡ known_with (known_of lines) (prefixes_of more)
-known_lines lines more = ap different (flat_map-append (λ l. l.command.prefixes) lines more) ∙ known_append [] (prefixes_of lines) (prefixes_of more)
+known_lines lines more =
+    ap different (flat_map-append (λ l. l.command.prefixes) lines more) ∙ known_append [] (prefixes_of lines) (prefixes_of more)
 
 -- fewer lines have fewer prefixes
 fewer_known : (lines more : List Line) → length (known_of (lines ++ more)) ≤ 64 → length (known_of lines) ≤ 64
@@ -78,8 +80,10 @@ apart_lines before (l ∷ more) h apart =
 lines_apart : (before lines : List Line) → are_apart (known_of (before ++ lines)) ≡ true → first nested_line before lines ≡ None
 lines_apart before [] apart = refl
 lines_apart before (l ∷ more) apart =
-    let all : are_apart (known_of ((before ++ l ∷ []) ++ more)) ≡ true = subst (λ b. are_apart (known_of b) ≡ true) (sym (append_assoc before (l ∷ []) more)) apart in
-    let here = apart_fewer (known_of (before ++ l ∷ [])) (prefixes_of more) (ap are_apart (sym (known_lines (before ++ l ∷ []) more)) ∙ all) in
+    let all : are_apart (known_of ((before ++ l ∷ []) ++ more)) ≡ true =
+    subst (λ b. are_apart (known_of b) ≡ true) (sym (append_assoc before (l ∷ []) more)) apart in
+    let here =
+    apart_fewer (known_of (before ++ l ∷ [])) (prefixes_of more) (ap are_apart (sym (known_lines (before ++ l ∷ []) more)) ∙ all) in
     ap (λ k. option_or (number_or k l.number) (first nested_line (before ++ l ∷ []) more)) here ∙ lines_apart (before ++ l ∷ []) more all
 
 -- ---- a script of lines
@@ -88,9 +92,11 @@ abbrev script_of : List Line → Script
 script_of lines = record { lines = lines; known = known_of lines; nested = first nested_line [] lines }
 
 -- the first nested item of a line
-items_nested : (lines : List Line) (l : Line) (is : List Item) → l.command.prefixes ≡ values kinds.Prefix is → first nested_line [] lines ≡ None
+items_nested : (lines : List Line) (l : Line) (is : List Item) → l.command.prefixes ≡ values kinds.Prefix is
+    → first nested_line [] lines ≡ None
     → first (nested_behind (Some l.number) (known_of lines)) [] is ≡ nested_line lines l
-items_nested lines l is same none = by (first (nested_behind (Some l.number) known) [] is) refl (are_apart (known_of (lines ++ l ∷ []))) refl
+items_nested lines l is same none =
+    by (first (nested_behind (Some l.number) known) [] is) refl (are_apart (known_of (lines ++ l ∷ []))) refl
   where
     known : List (List ℕ)
     known = known_of lines
@@ -98,7 +104,8 @@ items_nested lines l is same none = by (first (nested_behind (Some l.number) kno
     all : known_of (lines ++ l ∷ []) ≡ known_behind known is
     all = known_line lines l ∙ ap (known_with known) same
 
-    by : (o : Option ℕ) → first (nested_behind (Some l.number) known) [] is ≡ o → (k : Bool) → are_apart (known_of (lines ++ l ∷ [])) ≡ k → o ≡ number_or k l.number
+    by : (o : Option ℕ) → first (nested_behind (Some l.number) known) [] is ≡ o → (k : Bool) → are_apart (known_of (lines ++ l ∷ [])) ≡ k
+        → o ≡ number_or k l.number
     by None e true f = refl
     by None e false f =
         absurd (true≢false (sym (none_nested (Some l.number) known [] is (apart_lines [] lines none refl) e) ∙ sym (ap are_apart all) ∙ f))
@@ -111,7 +118,8 @@ items_nested lines l is same none = by (first (nested_behind (Some l.number) kno
 
 -- the first nested line of one line more
 nested_more : (lines : List Line) (l : Line) (is : List Item) → l.command.prefixes ≡ values kinds.Prefix is
-    → later (first nested_line [] lines) (first (nested_behind (Some l.number) (known_of lines)) [] is) ≡ first nested_line [] (lines ++ l ∷ [])
+    → later (first nested_line [] lines) (first (nested_behind (Some l.number) (known_of lines)) [] is) ≡ first nested_line []
+    (lines ++ l ∷ [])
 nested_more lines l is same =
     by (first nested_line [] lines) (items_nested lines l is same) ∙ sym (first_append nested_line [] lines (l ∷ []))
   where
@@ -133,7 +141,8 @@ nested_more lines l is same =
 prefixes_are : (script : Bool) (words : List (List ℕ)) (c : Command) (m : IsCommand script words c) → c.prefixes ≡ values kinds.Prefix m.is
 prefixes_are script words c m = ap (λ (d : Command). d.prefixes) m.command
 
-judged_ok : (n : ℕ) (blank : Option ℕ) (read : Read Reading Fault) (r : Reading) → judged n blank read ≡ Ok r → (blank ≡ None) × (read ≡ Ok r)
+judged_ok : (n : ℕ) (blank : Option ℕ) (read : Read Reading Fault) (r : Reading) → judged n blank read ≡ Ok r
+    → (blank ≡ None) × (read ≡ Ok r)
 judged_ok n None (Ok x) r h = (refl, h)
 judged_ok n None (Err f) r h = cc
 judged_ok n (Some b) (Ok x) r h = cc
@@ -142,7 +151,8 @@ judged_ok n (Some b) (Err f) r h = cc
 -- what a physical line makes of a script
 data Step (n : ℕ) (lines : List Line) (text : List ℕ) : Script → Type 0 where
   stays : is_passed text ≡ true → Step n lines text (script_of lines)
-  goes : (l : Line) → is_passed text ≡ false → IsLine n text l → length (known_of (lines ++ l ∷ [])) ≤ 64 → Step n lines text (script_of (lines ++ l ∷ []))
+  goes : (l : Line) → is_passed text ≡ false → IsLine n text l → length (known_of (lines ++ l ∷ [])) ≤ 64
+      → Step n lines text (script_of (lines ++ l ∷ []))
 
 ok_same : (x y : Script) → (let m : Read Script Fault = Ok x in m) ≡ Ok y → x ≡ y
 ok_same x y e = cc
@@ -153,8 +163,10 @@ in_bounds n h = grind (arith, nat_tests)
 bounds_in : (n : ℕ) → n ≤ 10000 → nat_lt 10000 n ≡ false
 bounds_in n h = grind (arith, nat_tests)
 
-module _ (cut_whole : (text before behind : List ℕ) → cut_first equals text ≡ Some (before, behind) → text ≡ before ++ equals ∷ behind) where
-  reading_step : (n : ℕ) (lines : List Line) (text session : List ℕ) (words : List (List ℕ)) (number : ℕ) (r : Reading) → length (known_of lines) ≤ 64
+module _ (cut_whole : (text before behind : List ℕ) → cut_first equals text ≡ Some (before, behind)
+    → text ≡ before ++ equals ∷ behind) where
+  reading_step : (n : ℕ) (lines : List Line) (text session : List ℕ) (words : List (List ℕ)) (number : ℕ) (r : Reading)
+      → length (known_of lines) ≤ 64
       → is_passed text ≡ false → parted space text ≡ session ∷ words → number_in 0 15 session ≡ Some number
       → judged n (position is_empty words) (command_read (Some n) (known_of lines) (first nested_line [] lines) words) ≡ Ok r
       → Step n lines text (with_reading n number (script_of lines) r)
@@ -164,7 +176,8 @@ module _ (cut_whole : (text before behind : List ℕ) → cut_first equals text 
       let l : Line = record { number = n; session = number; command = r.command } in
       let known : r.known ≡ known_of (lines ++ l ∷ []) = ap (λ (s : Reading). s.known) as_it_is.all ∙ sym (known_line lines l) in
       let nested : r.nested ≡ first nested_line [] (lines ++ l ∷ []) =
-      ap (λ (s : Reading). s.nested) as_it_is.all ∙ nested_more lines l as_it_is.command.is (prefixes_are true words r.command as_it_is.command) in
+      ap (λ (s : Reading). s.nested) as_it_is.all
+      ∙ nested_more lines l as_it_is.command.is (prefixes_are true words r.command as_it_is.command) in
       let same : script_of (lines ++ l ∷ []) ≡ with_reading n number (script_of lines) r =
       sym (λ i. record { lines = lines ++ l ∷ []; known = known i; nested = nested i }) in
       subst (Step n lines text) same (goes l here (record {
@@ -172,7 +185,7 @@ module _ (cut_whole : (text before behind : List ℕ) → cut_first equals text 
         words = words;
         fields = fields;
         number = refl;
-        numbered = numbered;
+        session_is = numbered;
         filled = none_empty words parts.0;
         command = as_it_is.command;
       }) (subst (λ k. length k ≤ 64) (sym (known_line lines l)) as_it_is.few))
@@ -187,21 +200,25 @@ module _ (cut_whole : (text before behind : List ℕ) → cut_first equals text 
       subst (Step n lines text) (ok_same (with_reading n number (script_of lines) parts.value) s parts.second)
       (reading_step n lines text session words number parts.value few here fields e parts.first)
 
-  line_step : (n : ℕ) (lines : List Line) (text : List ℕ) (s : Script) → length (known_of lines) ≤ 64 → with_line n (script_of lines) text ≡ Ok s
+  line_step : (n : ℕ) (lines : List Line) (text : List ℕ) (s : Script) → length (known_of lines) ≤ 64
+      → with_line n (script_of lines) text ≡ Ok s
       → (n ≤ 10000) × Step n lines text s
   unfolding with_fields
   line_step n lines text s few h = by_late (nat_lt 10000 n) refl h
     where
-      by_fields : is_passed text ≡ false → (fields : List (List ℕ)) → parted space text ≡ fields → with_fields n (script_of lines) fields ≡ Ok s → Step n lines text s
+      by_fields : is_passed text ≡ false → (fields : List (List ℕ)) → parted space text ≡ fields
+          → with_fields n (script_of lines) fields ≡ Ok s → Step n lines text s
       by_fields e [] f g = cc
       by_fields e (session ∷ words) f g = session_step n lines text session words s few e f (number_in 0 15 session) refl g
 
-      by_passed : (k : Bool) → is_passed text ≡ k → (if k then Ok (script_of lines) else with_fields n (script_of lines) (parted space text)) ≡ Ok s → Step n lines text s
+      by_passed : (k : Bool) → is_passed text ≡ k
+          → (if k then Ok (script_of lines) else with_fields n (script_of lines) (parted space text)) ≡ Ok s → Step n lines text s
       by_passed true e g = subst (Step n lines text) (ok_same (script_of lines) s g) (stays e)
       by_passed false e g = by_fields e (parted space text) refl g
 
       by_late : (k : Bool) → nat_lt 10000 n ≡ k
-          → (if k then (let m : Read Script Fault = Err (n, whys.Limit) in m) else if is_passed text then Ok (script_of lines) else with_fields n (script_of lines) (parted space text)) ≡ Ok s
+          → (if k then (let m : Read Script Fault = Err (n, whys.Limit) in m) else if is_passed text then Ok (script_of lines)
+          else with_fields n (script_of lines) (parted space text)) ≡ Ok s
           → (n ≤ 10000) × Step n lines text s
       by_late true e g = cc
       by_late false e g = (in_bounds n e, by_passed (is_passed text) refl g)
@@ -231,11 +248,18 @@ module _ (cut_whole : (text before behind : List ℕ) → cut_first equals text 
       by parts.value step.1 parts.second (λ ls few g. lines_step (k + 1) ls texts s (omega arith) few g)
     where
       by : (mid : Script) → Step k lines text mid → with_lines (k + 1) mid texts ≡ Ok s
-          → ((ls : List Line) → length (known_of ls) ≤ 64 → with_lines (k + 1) (script_of ls) texts ≡ Ok s → Taken (k + 1) ls texts s) → Taken k lines (text ∷ texts) s
+          → ((ls : List Line) → length (known_of ls) ≤ 64 → with_lines (k + 1) (script_of ls) texts ≡ Ok s → Taken (k + 1) ls texts s)
+          → Taken k lines (text ∷ texts) s
       by mid (stays here) g rest =
           let later = rest lines few g in
           let short : k + 1 + length texts ≤ 10001 = later.short in
-          record { more = later.more; whole = later.whole; are = passed k text texts later.more here later.are; short = omega arith; few = later.few }
+          record {
+            more = later.more;
+            whole = later.whole;
+            are = passed k text texts later.more here later.are;
+            short = omega arith;
+            few = later.few;
+          }
       by mid (goes l here is few') g rest =
           let later = rest (lines ++ l ∷ []) few' g in
           let short : k + 1 + length texts ≤ 10001 = later.short in
@@ -247,7 +271,8 @@ module _ (cut_whole : (text before behind : List ℕ) → cut_first equals text 
             few = subst (λ ls. length (known_of ls) ≤ 64) (append_assoc lines (l ∷ []) later.more) later.few;
           }
 
-  taken_of : (texts : List (List ℕ)) (s : Script) → with_lines 1 no_lines texts ≡ Ok s → (lines : List Line) × (s ≡ script_of lines) × AreTaken texts lines
+  taken_of : (texts : List (List ℕ)) (s : Script) → with_lines 1 no_lines texts ≡ Ok s
+      → (lines : List Line) × (s ≡ script_of lines) × AreTaken texts lines
   taken_of texts s h =
       let taken = lines_step 1 [] texts s (lit≤ tt) (lit≤ tt) h in
       let short : 1 + length texts ≤ 10001 = taken.short in
@@ -263,16 +288,20 @@ line_back lines text l low here is few =
     let known = known_of lines in
     let nested = first nested_line [] lines in
     let few' : length (known_with known l.command.prefixes) ≤ 64 = subst (λ k. length k ≤ 64) (known_line lines l) few in
-    let script : with_reading n l.session (script_of lines) (reading_by (Some n) known nested l.command is.command.is) ≡ script_of (lines ++ l ∷ []) =
+    let script : with_reading n l.session (script_of lines) (reading_by (Some n) known nested l.command is.command.is) ≡ script_of
+    (lines ++ l ∷ []) =
     (let known_is = sym (known_line lines l) in
     let nested_is = nested_more lines l is.command.is (prefixes_are true is.words l.command is.command) in
     λ i. record { lines = lines ++ l ∷ []; known = known_is i; nested = nested_is i }) in
-    ap (λ k. if k then Err (n, whys.Limit) else if is_passed text then Ok (script_of lines) else with_fields n (script_of lines) (parted space text)) (bounds_in n low)
+    ap (λ k. if k then Err (n, whys.Limit) else if is_passed text then Ok (script_of lines) else with_fields n (script_of lines)
+    (parted space text)) (bounds_in n low)
     ∙ ap (λ k. if k then Ok (script_of lines) else with_fields n (script_of lines) (parted space text)) here
     ∙ ap (with_fields n (script_of lines)) is.fields
-    ∙ ap (with_session n (script_of lines) is.words) is.numbered
-    ∙ ap (λ b. judged n b (command_read (Some n) known nested is.words) >>= (λ r. Ok (with_reading n l.session (script_of lines) r))) (no_empty is.words is.filled)
-    ∙ ap (λ m. judged n None m >>= (λ r. Ok (with_reading n l.session (script_of lines) r))) (command_reads (Some n) known nested is.words l.command is.command few')
+    ∙ ap (with_session n (script_of lines) is.words) is.session_is
+    ∙ ap (λ b. judged n b (command_read (Some n) known nested is.words) >>= (λ r. Ok (with_reading n l.session (script_of lines) r)))
+    (no_empty is.words is.filled)
+    ∙ ap (λ m. judged n None m >>= (λ r. Ok (with_reading n l.session (script_of lines) r)))
+    (command_reads (Some n) known nested is.words l.command is.command few')
     ∙ ap (λ s. Ok s) script
 
 passed_back : (n : ℕ) (s : Script) (text : List ℕ) → n ≤ 10000 → is_passed text ≡ true → with_line n s text ≡ Ok s
@@ -287,9 +316,11 @@ lines_back k lines texts more (passed n text rest ls here are) short few =
     ap (λ m. m >>= (λ next. with_lines (n + 1) next rest)) (passed_back n (script_of lines) text (omega arith) here)
     ∙ lines_back (n + 1) lines rest ls are (omega arith) few
 lines_back k lines texts more (one_line n text l rest ls here is are) short few =
-    let all : length (known_of ((lines ++ l ∷ []) ++ ls)) ≤ 64 = subst (λ ls. length (known_of ls) ≤ 64) (sym (append_assoc lines (l ∷ []) ls)) few in
+    let all : length (known_of ((lines ++ l ∷ []) ++ ls)) ≤ 64 =
+    subst (λ ls. length (known_of ls) ≤ 64) (sym (append_assoc lines (l ∷ []) ls)) few in
     let number : l.number ≡ n = is.number in
-    let step = line_back lines text l (omega arith) here (subst (λ m. IsLine m text l) (sym number) is) (fewer_known (lines ++ l ∷ []) ls all) in
+    let step =
+    line_back lines text l (omega arith) here (subst (λ m. IsLine m text l) (sym number) is) (fewer_known (lines ++ l ∷ []) ls all) in
     ap (λ m. m >>= (λ next. with_lines (n + 1) next rest)) (ap (λ m. with_line m (script_of lines) text) (sym number) ∙ step)
     ∙ lines_back (n + 1) (lines ++ l ∷ []) rest ls are (omega arith) all
     ∙ ap (λ ls. Ok (script_of ls)) (append_assoc lines (l ∷ []) ls)
@@ -306,14 +337,16 @@ nested_is_none (Some at) h = cc
 abbrev after : Script → Read (List Line) Fault
 after s = unless (nested_fault s.nested) s.lines
 
-module _ (cut_whole : (text before behind : List ℕ) → cut_first equals text ≡ Some (before, behind) → text ≡ before ++ equals ∷ behind) where
+module _ (cut_whole : (text before behind : List ℕ) → cut_first equals text ≡ Some (before, behind)
+    → text ≡ before ++ equals ∷ behind) where
   pub meaning_of : (text : List ℕ) (lines : List Line) → script_read text ≡ Ok lines → MeansLines text lines
   unfolding script_read
   meaning_of text lines h =
       let outer = bind_ok (with_lines 1 no_lines (lines_of text)) after lines h in
       let taken = taken_of cut_whole (lines_of text) outer.value outer.first in
       let end = unless_ok (nested_fault outer.value.nested) outer.value.lines lines outer.second in
-      let none : first nested_line [] taken.0 ≡ None = sym (ap (λ (s : Script). s.nested) taken.1) ∙ nested_is_none outer.value.nested end.0 in
+      let none : first nested_line [] taken.0 ≡ None =
+      sym (ap (λ (s : Script). s.nested) taken.1) ∙ nested_is_none outer.value.nested end.0 in
       let same : taken.0 ≡ lines = sym (ap (λ (s : Script). s.lines) taken.1) ∙ end.1 in
       subst (MeansLines text) same (record { taken = taken.2; apart = apart_lines [] taken.0 none refl })
 
@@ -362,7 +395,8 @@ module _ (n : ℕ) (lines : List Line) (words : List (List ℕ)) where
   abbrev read : Read Reading Fault
   read = command_read (Some n) (known_of lines) (first nested_line [] lines) words
 
-  words_bad : (blank : Option ℕ) → position is_empty words ≡ blank → (r : Read Reading Fault) → read ≡ r → (why : Why) → judged n blank r ≡ Err (n, why)
+  words_bad : (blank : Option ℕ) → position is_empty words ≡ blank → (r : Read Reading Fault) → read ≡ r → (why : Why)
+      → judged n blank r ≡ Err (n, why)
       → IsBadFor (known_of lines) words why
   words_bad None e (Ok r) f why h = cc
   words_bad (Some blank) e (Ok r) f why h =
@@ -371,16 +405,19 @@ module _ (n : ℕ) (lines : List Line) (words : List (List ℕ)) where
       let wrong = fault_read (Some n) (known_of lines) (first nested_line [] lines) words m w fault in cc))
   words_bad None e (Err fault) f why h =
       own fault.0 why
-      (subst (HasCommandFault true (known_of lines) words fault.0) (judged_err n fault.1 why h) (read_fault (Some n) (known_of lines) (first nested_line [] lines) words fault.0 fault.1 f))
+      (subst (HasCommandFault true (known_of lines) words fault.0) (judged_err n fault.1 why h)
+      (read_fault (Some n) (known_of lines) (first nested_line [] lines) words fault.0 fault.1 f))
       (some_fewer (fault.0 + 1) words (none_empty words e))
   words_bad (Some blank) e (Err fault) f why h = by (nat_lt fault.0 blank) refl h
     where
-      by : (k : Bool) → nat_lt fault.0 blank ≡ k → (let m : Read Reading Fault = Err (n, if k then fault.1 else whys.Unknown) in m) ≡ Err (n, why)
+      by : (k : Bool) → nat_lt fault.0 blank ≡ k
+          → (let m : Read Reading Fault = Err (n, if k then fault.1 else whys.Unknown) in m) ≡ Err (n, why)
           → IsBadFor (known_of lines) words why
       by true g i =
           let less : fault.0 + 1 ≤ blank = grind (arith, nat_tests) in
           own fault.0 why
-          (subst (HasCommandFault true (known_of lines) words fault.0) (judged_err n fault.1 why i) (read_fault (Some n) (known_of lines) (first nested_line [] lines) words fault.0 fault.1 f))
+          (subst (HasCommandFault true (known_of lines) words fault.0) (judged_err n fault.1 why i)
+          (read_fault (Some n) (known_of lines) (first nested_line [] lines) words fault.0 fault.1 f))
           (fewer_empty (fault.0 + 1) blank words less (found_empty words blank e).before)
       by false g i =
           let above : blank ≤ fault.0 = grind (arith, nat_tests) in
@@ -391,7 +428,8 @@ module _ (n : ℕ) (lines : List Line) (words : List (List ℕ)) where
 
   bad_for : (why : Why) → IsBadFor (known_of lines) words why → judged n (position is_empty words) read ≡ Err (n, why)
   bad_for why (own at w fault none) =
-      ap (judged n (position is_empty words)) (fault_read (Some n) (known_of lines) (first nested_line [] lines) words at w fault) ∙ by (position is_empty words) refl
+      ap (judged n (position is_empty words)) (fault_read (Some n) (known_of lines) (first nested_line [] lines) words at w fault)
+      ∙ by (position is_empty words) refl
     where
       by : (blank : Option ℕ) → position is_empty words ≡ blank → judged n blank (Err (at, w)) ≡ Err (n, w)
       by None e = refl
@@ -410,16 +448,19 @@ module _ (n : ℕ) (lines : List Line) (words : List (List ℕ)) where
       by : (blank : ℕ) → blank ≤ at → (r : Read Reading Fault) → read ≡ r → judged n (Some blank) r ≡ Err (n, whys.Unknown)
       by blank low (Ok r) e = refl
       by blank low (Err fault) e =
-          let above : at ≤ fault.0 = least fault.0 fault.1 (read_fault (Some n) (known_of lines) (first nested_line [] lines) words fault.0 fault.1 e) in
+          let above : at ≤ fault.0 =
+          least fault.0 fault.1 (read_fault (Some n) (known_of lines) (first nested_line [] lines) words fault.0 fault.1 e) in
           let not_less : nat_lt fault.0 blank ≡ false = grind (arith, nat_tests) in
           ap (λ k. Err (n, if k then fault.1 else whys.Unknown)) not_less
 
-line_bad : (n : ℕ) (lines : List Line) (text : List ℕ) (why : Why) → with_line n (script_of lines) text ≡ Err (n, why) → IsBadLine n (known_of lines) text why
+line_bad : (n : ℕ) (lines : List Line) (text : List ℕ) (why : Why) → with_line n (script_of lines) text ≡ Err (n, why)
+    → IsBadLine n (known_of lines) text why
 unfolding with_fields
 line_bad n lines text why h = by_late (nat_lt 10000 n) refl h
   where
     by_session : n ≤ 10000 → is_passed text ≡ false → (session : List ℕ) (words : List (List ℕ)) → parted space text ≡ session ∷ words
-        → (number : Option ℕ) → number_in 0 15 session ≡ number → with_session n (script_of lines) words number ≡ Err (n, why) → IsBadLine n (known_of lines) text why
+        → (number : Option ℕ) → number_in 0 15 session ≡ number → with_session n (script_of lines) words number ≡ Err (n, why)
+        → IsBadLine n (known_of lines) text why
     by_session low here session words f None e g =
         subst (IsBadLine n (known_of lines) text) (err_same n whys.Number why g) (unnumbered session words low here f e)
     by_session low here session words f (Some number) e g =
@@ -432,12 +473,14 @@ line_bad n lines text why h = by_late (nat_lt 10000 n) refl h
         by (inl i) = bad_words session words number why low here f e (words_bad n lines words (position is_empty words) refl _ refl why i)
         by (inr i) = let wrong = i.second in cc
 
-    by_fields : n ≤ 10000 → is_passed text ≡ false → (fields : List (List ℕ)) → parted space text ≡ fields → with_fields n (script_of lines) fields ≡ Err (n, why)
+    by_fields : n ≤ 10000 → is_passed text ≡ false → (fields : List (List ℕ)) → parted space text ≡ fields
+        → with_fields n (script_of lines) fields ≡ Err (n, why)
         → IsBadLine n (known_of lines) text why
     by_fields low here [] f g = absurd (no_parts text f)
     by_fields low here (session ∷ words) f g = by_session low here session words f (number_in 0 15 session) refl g
 
-    by_passed : n ≤ 10000 → (k : Bool) → is_passed text ≡ k → (if k then Ok (script_of lines) else with_fields n (script_of lines) (parted space text)) ≡ Err (n, why)
+    by_passed : n ≤ 10000 → (k : Bool) → is_passed text ≡ k
+        → (if k then Ok (script_of lines) else with_fields n (script_of lines) (parted space text)) ≡ Err (n, why)
         → IsBadLine n (known_of lines) text why
     by_passed low true e g = cc
     by_passed low false e g = by_fields low e (parted space text) refl g
@@ -446,23 +489,28 @@ line_bad n lines text why h = by_late (nat_lt 10000 n) refl h
     late_is e = grind (arith, nat_tests)
 
     by_late : (k : Bool) → nat_lt 10000 n ≡ k
-        → (if k then (let m : Read Script Fault = Err (n, whys.Limit) in m) else if is_passed text then Ok (script_of lines) else with_fields n (script_of lines) (parted space text)) ≡ Err (n, why)
+        → (if k then (let m : Read Script Fault = Err (n, whys.Limit) in m) else if is_passed text then Ok (script_of lines)
+        else with_fields n (script_of lines) (parted space text)) ≡ Err (n, why)
         → IsBadLine n (known_of lines) text why
     by_late true e g = subst (IsBadLine n (known_of lines) text) (err_same n whys.Limit why g) (late (late_is e))
     by_late false e g = by_passed (in_bounds n e) (is_passed text) refl g
 
 -- a physical line that may hold words
-on_line : (n : ℕ) (lines : List Line) (text session : List ℕ) (words : List (List ℕ)) → n ≤ 10000 → is_passed text ≡ false → parted space text ≡ session ∷ words
+on_line : (n : ℕ) (lines : List Line) (text session : List ℕ) (words : List (List ℕ)) → n ≤ 10000 → is_passed text ≡ false
+    → parted space text ≡ session ∷ words
     → with_line n (script_of lines) text ≡ with_session n (script_of lines) words (number_in 0 15 session)
 unfolding with_fields
 on_line n lines text session words low here fields =
-    ap (λ k. if k then (let m : Read Script Fault = Err (n, whys.Limit) in m) else if is_passed text then Ok (script_of lines) else with_fields n (script_of lines) (parted space text)) (bounds_in n low)
+    ap (λ k. if k then (let m : Read Script Fault = Err (n, whys.Limit) in m) else if is_passed text then Ok (script_of lines)
+    else with_fields n (script_of lines) (parted space text)) (bounds_in n low)
     ∙ ap (λ k. if k then Ok (script_of lines) else with_fields n (script_of lines) (parted space text)) here
     ∙ ap (with_fields n (script_of lines)) fields
 
-bad_line : (n : ℕ) (lines : List Line) (text : List ℕ) (why : Why) → IsBadLine n (known_of lines) text why → with_line n (script_of lines) text ≡ Err (n, why)
+bad_line : (n : ℕ) (lines : List Line) (text : List ℕ) (why : Why) → IsBadLine n (known_of lines) text why
+    → with_line n (script_of lines) text ≡ Err (n, why)
 bad_line n lines text why (late above) =
-    ap (λ k. if k then (let m : Read Script Fault = Err (n, whys.Limit) in m) else if is_passed text then Ok (script_of lines) else with_fields n (script_of lines) (parted space text)) is_late
+    ap (λ k. if k then (let m : Read Script Fault = Err (n, whys.Limit) in m) else if is_passed text then Ok (script_of lines)
+    else with_fields n (script_of lines) (parted space text)) is_late
   where
     is_late : nat_lt 10000 n ≡ true
     is_late = grind (arith, nat_tests)
@@ -474,7 +522,8 @@ bad_line n lines text why (bad_words session words number w low here fields numb
 
 -- ---- the first bad line
 
-module _ (cut_whole : (text before behind : List ℕ) → cut_first equals text ≡ Some (before, behind) → text ≡ before ++ equals ∷ behind) where
+module _ (cut_whole : (text before behind : List ℕ) → cut_first equals text ≡ Some (before, behind)
+    → text ≡ before ++ equals ∷ behind) where
   bad_at : (texts : List (List ℕ)) (n : ℕ) (why : Why) → with_lines 1 no_lines texts ≡ Err (n, why) → IsBadAt texts n why
   bad_at texts n why h =
       let bad = lines_bad 1 no_lines texts n why h in
@@ -490,7 +539,8 @@ module _ (cut_whole : (text before behind : List ℕ) → cut_first equals text 
         wrong = line_bad n taken.0 bad.line why (ap (λ s. with_line n s bad.line) (sym taken.1) ∙ bad.wrong);
       }
 
-  nested_at : (texts : List (List ℕ)) (n : ℕ) (why : Why) → SecondErr (with_lines 1 no_lines texts) after (n, why) → IsNestedLine texts n why
+  nested_at : (texts : List (List ℕ)) (n : ℕ) (why : Why) → SecondErr (with_lines 1 no_lines texts) after (n, why)
+      → IsNestedLine texts n why
   nested_at texts n why s =
       let taken = taken_of cut_whole texts s.value s.first in
       let found = nested_some s.value.nested n why (unless_err (nested_fault s.value.nested) s.value.lines (n, why) s.second) in
@@ -514,15 +564,16 @@ module _ (cut_whole : (text before behind : List ℕ) → cut_first equals text 
       by true m e = cc
       by false m e = (refl, same m n e)
 
-  pub fault_of : (text : List ℕ) (n : ℕ) (why : Why) → script_read text ≡ Err (n, why) → IsFirstBadLine text n why
+  pub fault_of : (text : List ℕ) (n : ℕ) (why : Why) → script_read text ≡ Err (n, why) → HasLineFault text n why
   unfolding script_read
   fault_of text n why h = by (bind_err (with_lines 1 no_lines (lines_of text)) after (n, why) h)
     where
-      by : (with_lines 1 no_lines (lines_of text) ≡ Err (n, why)) ⊎ SecondErr (with_lines 1 no_lines (lines_of text)) after (n, why) → IsFirstBadLine text n why
+      by : (with_lines 1 no_lines (lines_of text) ≡ Err (n, why)) ⊎ SecondErr (with_lines 1 no_lines (lines_of text)) after (n, why)
+          → HasLineFault text n why
       by (inl e) = inl (bad_at (lines_of text) n why e)
       by (inr s) = inr (nested_at (lines_of text) n why s)
 
-pub fault_read_at : (text : List ℕ) (n : ℕ) (why : Why) → IsFirstBadLine text n why → script_read text ≡ Err (n, why)
+pub fault_read_at : (text : List ℕ) (n : ℕ) (why : Why) → HasLineFault text n why → script_read text ≡ Err (n, why)
 unfolding script_read
 fault_read_at text n why (inl b) =
     ap (λ m. m >>= after)
@@ -533,7 +584,8 @@ fault_read_at text n why (inr b) =
     let lines : List Line = b.front ++ b.line ∷ b.behind in
     ap (λ m. m >>= after) (of_taken (lines_of text) lines b.taken)
     ∙ ap (λ o. unless (nested_fault o) lines)
-    (first_some nested_line [] b.front b.line b.behind n (lines_apart [] b.front b.apart) (ap (λ k. number_or k b.line.number) b.nested ∙ ap (λ m. Some m) (sym b.place)))
+    (first_some nested_line [] b.front b.line b.behind n (lines_apart [] b.front b.apart)
+    (ap (λ k. number_or k b.line.number) b.nested ∙ ap (λ m. Some m) (sym b.place)))
     ∙ cause_pair (sym b.cause)
   where
     cause_pair : whys.Nested ≡ why → (let m : Read (List Line) Fault = Err (n, whys.Nested) in m) ≡ Err (n, why)

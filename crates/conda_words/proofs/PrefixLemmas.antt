@@ -26,7 +26,9 @@ known_behind known before = known_with known (values kinds.Prefix before)
 pub known_on : (known : List (List ℕ)) (before : List Item) (i : Item)
     → known_behind known (before ++ i ∷ []) ≡ known_with (known_behind known before) (value_of kinds.Prefix i)
 known_on known before i =
-    ap (known_with known) (flat_map-append (value_of kinds.Prefix) before (i ∷ []) ∙ ap (λ v. values kinds.Prefix before ++ v) (append-nil (value_of kinds.Prefix i)))
+    ap (known_with known)
+    (flat_map-append (value_of kinds.Prefix) before (i ∷ [])
+    ∙ ap (λ v. values kinds.Prefix before ++ v) (append-nil (value_of kinds.Prefix i)))
     ∙ known_append known (values kinds.Prefix before) (value_of kinds.Prefix i)
 
 pub known_more : (known xs : List (List ℕ)) → length known ≤ length (known_with known xs)
@@ -39,13 +41,17 @@ known_more known (x ∷ xs) = by (is_among x known) (known_more known xs) (known
     by false same more = omega (arith, length-append known (x ∷ []))
 
 -- those behind some items are known behind more
-known_later : (known : List (List ℕ)) (before is : List Item) → known_with (known_behind known before) (values kinds.Prefix is) ≡ known_behind known (before ++ is)
+known_later : (known : List (List ℕ)) (before is : List Item)
+    → known_with (known_behind known before) (values kinds.Prefix is) ≡ known_behind known (before ++ is)
 known_later known before is =
-    sym (ap (known_with known) (flat_map-append (value_of kinds.Prefix) before is) ∙ known_append known (values kinds.Prefix before) (values kinds.Prefix is))
+    sym (ap (known_with known) (flat_map-append (value_of kinds.Prefix) before is)
+    ∙ known_append known (values kinds.Prefix before) (values kinds.Prefix is))
 
-behind_more : (known : List (List ℕ)) (before is : List Item) → length (known_behind known before) ≤ length (known_behind known (before ++ is))
+behind_more : (known : List (List ℕ)) (before is : List Item)
+    → length (known_behind known before) ≤ length (known_behind known (before ++ is))
 behind_more known before is =
-    subst (λ l. length (known_behind known before) ≤ length l) (known_later known before is) (known_more (known_behind known before) (values kinds.Prefix is))
+    subst (λ l. length (known_behind known before) ≤ length l) (known_later known before is)
+    (known_more (known_behind known before) (values kinds.Prefix is))
 
 -- ---- the limit
 
@@ -66,7 +72,8 @@ module _ (known : List (List ℕ)) (before : List Item) (i : Item) where
       by_new v false false e f = cc
 
       by : (k : Bool) (o : Option (List ℕ))
-          → (if k then placed (option_and_then (λ p. because_not whys.Limit (is_among p here || nat_lt (length here) 64)) o) else None) ≡ None
+          → (if k then placed (option_and_then (λ p. because_not whys.Limit (is_among p here || nat_lt (length here) 64)) o) else None)
+          ≡ None
           → length (known_with here (if k then option_to_list o else [])) ≤ 64
       by false o f = few
       by true None f = few
@@ -82,7 +89,8 @@ module _ (known : List (List ℕ)) (before : List Item) (i : Item) where
       by_new v false false e f = absurd (true≢false (sym (grind (arith, nat_tests, length-append here (v ∷ []))) ∙ e))
 
       by : (k : Bool) (o : Option (List ℕ)) → length (known_with here (if k then option_to_list o else [])) ≤ 64
-          → (if k then placed (option_and_then (λ p. because_not whys.Limit (is_among p here || nat_lt (length here) 64)) o) else None) ≡ None
+          → (if k then placed (option_and_then (λ p. because_not whys.Limit (is_among p here || nat_lt (length here) 64)) o) else None)
+          ≡ None
       by false o f = refl
       by true None f = refl
       by true (Some v) f = by_new v (is_among v here) (nat_lt (length here) 64) refl f
@@ -93,7 +101,8 @@ module _ (sub : Subcommand) (words : Words) (known : List (List ℕ)) where
     pub right : first (item_cause sub words) before is ≡ None
     pub few : length (known_behind known (before ++ is)) ≤ 64
 
-  pub fits : (before is : List Item) → length (known_behind known before) ≤ 64 → first (item_fault sub words known) before is ≡ None → Fits before is
+  pub fits : (before is : List Item) → length (known_behind known before) ≤ 64 → first (item_fault sub words known) before is ≡ None
+      → Fits before is
   fits before [] few h = record { right = refl; few = ap_few (append-nil before) few }
     where
       ap_few : before ++ [] ≡ before → length (known_behind known before) ≤ 64 → length (known_behind known (before ++ [])) ≤ 64
@@ -113,10 +122,12 @@ module _ (sub : Subcommand) (words : Words) (known : List (List ℕ)) where
   fit before [] h few = refl
   fit before (i ∷ is) h few =
       let parts = or_none (item_cause sub words before i) (first (item_cause sub words) (before ++ i ∷ []) is) h in
-      let all : length (known_behind known ((before ++ i ∷ []) ++ is)) ≤ 64 = subst (λ b. length (known_behind known b) ≤ 64) (sym (append_assoc before (i ∷ []) is)) few in
+      let all : length (known_behind known ((before ++ i ∷ []) ++ is)) ≤ 64 =
+      subst (λ b. length (known_behind known b) ≤ 64) (sym (append_assoc before (i ∷ []) is)) few in
       let less = behind_more known (before ++ i ∷ []) is in
       let here : length (known_behind known (before ++ i ∷ [])) ≤ 64 = omega arith in
-      let next : length (known_with (known_behind known before) (value_of kinds.Prefix i)) ≤ 64 = subst (λ l. length l ≤ 64) (known_on known before i) here in
+      let next : length (known_with (known_behind known before) (value_of kinds.Prefix i)) ≤ 64 =
+      subst (λ l. length l ≤ 64) (known_on known before i) here in
       ap (λ o. option_or (option_or o (limit_cause known before i)) (first (item_fault sub words known) (before ++ i ∷ []) is)) parts.0
       ∙ ap (λ o. option_or o (first (item_fault sub words known) (before ++ i ∷ []) is)) (limited known before i next)
       ∙ fit (before ++ i ∷ []) is parts.1 all
@@ -165,7 +176,8 @@ module _ (line : Option ℕ) (known : List (List ℕ)) (i : Item) where
   -- the answer for an item that is a prefix or isn't, and has a value or has none
   abbrev answer : Bool → Option (List ℕ) → Option ℕ
   answer k o =
-      if k then option_and_then (λ p. if is_among p known then None else if list_any (is_nested p) known then Some (unwrap_or line i.value_at) else None) o
+      if k then option_and_then
+      (λ p. if is_among p known then None else if list_any (is_nested p) known then Some (unwrap_or line i.value_at) else None) o
       else None
 
   abbrev then_known : Bool → Option (List ℕ) → List (List ℕ)
@@ -174,7 +186,8 @@ module _ (line : Option ℕ) (known : List (List ℕ)) (i : Item) where
   pub not_nested : nested_here line known i ≡ None → are_apart known ≡ true → are_apart (known_with known (value_of kinds.Prefix i)) ≡ true
   not_nested h apart = by (is_kind i.kind kinds.Prefix) i.value h
     where
-      by_new : (v : List ℕ) (a n : Bool) → list_any (is_nested v) known ≡ n → (if a then None else if n then Some (unwrap_or line i.value_at) else None) ≡ None
+      by_new : (v : List ℕ) (a n : Bool) → list_any (is_nested v) known ≡ n
+          → (if a then None else if n then Some (unwrap_or line i.value_at) else None) ≡ None
           → are_apart (if a then known else known ++ v ∷ []) ≡ true
       by_new v true n e f = apart
       by_new v false true e f = cc
@@ -185,7 +198,8 @@ module _ (line : Option ℕ) (known : List (List ℕ)) (i : Item) where
       by true None f = apart
       by true (Some v) f = by_new v (is_among v known) (list_any (is_nested v) known) refl f
 
-  pub is_nested_here : (m : ℕ) → nested_here line known i ≡ Some m → (are_apart (known_with known (value_of kinds.Prefix i)) ≡ false) × (m ≡ unwrap_or line i.value_at)
+  pub is_nested_here : (m : ℕ) → nested_here line known i ≡ Some m
+      → (are_apart (known_with known (value_of kinds.Prefix i)) ≡ false) × (m ≡ unwrap_or line i.value_at)
   is_nested_here m h = by (is_kind i.kind kinds.Prefix) i.value h
     where
       none : (k : Bool) → (k && false) ≡ false
@@ -195,10 +209,12 @@ module _ (line : Option ℕ) (known : List (List ℕ)) (i : Item) where
       same : (x y : ℕ) → Some x ≡ Some y → y ≡ x
       same x y e = cc
 
-      by_new : (v : List ℕ) (a n : Bool) → list_any (is_nested v) known ≡ n → (if a then None else if n then Some (unwrap_or line i.value_at) else None) ≡ Some m
+      by_new : (v : List ℕ) (a n : Bool) → list_any (is_nested v) known ≡ n
+          → (if a then None else if n then Some (unwrap_or line i.value_at) else None) ≡ Some m
           → (are_apart (if a then known else known ++ v ∷ []) ≡ false) × (m ≡ unwrap_or line i.value_at)
       by_new v true n e f = cc
-      by_new v false true e f = (apart_push known v ∙ ap (λ b. are_apart known && not b) e ∙ none (are_apart known), same (unwrap_or line i.value_at) m f)
+      by_new v false true e f =
+          (apart_push known v ∙ ap (λ b. are_apart known && not b) e ∙ none (are_apart known), same (unwrap_or line i.value_at) m f)
       by_new v false false e f = cc
 
       by : (k : Bool) (o : Option (List ℕ)) → answer k o ≡ Some m → (are_apart (then_known k o) ≡ false) × (m ≡ unwrap_or line i.value_at)
@@ -213,7 +229,8 @@ module _ (line : Option ℕ) (known : List (List ℕ)) (i : Item) where
       by None e = refl
       by (Some m) e = absurd (true≢false (sym h ∙ (is_nested_here m e).0))
 
-  pub nested_so : are_apart known ≡ true → are_apart (known_with known (value_of kinds.Prefix i)) ≡ false → nested_here line known i ≡ Some (unwrap_or line i.value_at)
+  pub nested_so : are_apart known ≡ true → are_apart (known_with known (value_of kinds.Prefix i)) ≡ false
+      → nested_here line known i ≡ Some (unwrap_or line i.value_at)
   nested_so apart h = by (nested_here line known i) refl
     where
       by : (o : Option ℕ) → nested_here line known i ≡ o → o ≡ Some (unwrap_or line i.value_at)
@@ -222,20 +239,25 @@ module _ (line : Option ℕ) (known : List (List ℕ)) (i : Item) where
 
 module _ (line : Option ℕ) (known : List (List ℕ)) where
   -- no item is nested where all prefixes are apart
-  pub none_nested : (before is : List Item) → are_apart (known_behind known before) ≡ true → first (nested_behind line known) before is ≡ None
+  pub none_nested : (before is : List Item) → are_apart (known_behind known before) ≡ true
+      → first (nested_behind line known) before is ≡ None
       → are_apart (known_behind known (before ++ is)) ≡ true
   none_nested before [] apart h = subst (λ b. are_apart (known_behind known b) ≡ true) (sym (append-nil before)) apart
   none_nested before (i ∷ is) apart h =
       let parts = or_none (nested_behind line known before i) (first (nested_behind line known) (before ++ i ∷ []) is) h in
       let next = ap are_apart (known_on known before i) ∙ not_nested line (known_behind known before) i parts.0 apart in
-      subst (λ b. are_apart (known_behind known b) ≡ true) (append_assoc before (i ∷ []) is) (none_nested (before ++ i ∷ []) is next parts.1)
+      subst (λ b. are_apart (known_behind known b) ≡ true) (append_assoc before (i ∷ []) is)
+      (none_nested (before ++ i ∷ []) is next parts.1)
 
-  pub nested_none : (before is : List Item) → are_apart (known_behind known (before ++ is)) ≡ true → first (nested_behind line known) before is ≡ None
+  pub nested_none : (before is : List Item) → are_apart (known_behind known (before ++ is)) ≡ true
+      → first (nested_behind line known) before is ≡ None
   nested_none before [] apart = refl
   nested_none before (i ∷ is) apart =
       let all : are_apart (known_behind known ((before ++ i ∷ []) ++ is)) ≡ true =
       subst (λ b. are_apart (known_behind known b) ≡ true) (sym (append_assoc before (i ∷ []) is)) apart in
-      let here = apart_fewer (known_behind known (before ++ i ∷ [])) (values kinds.Prefix is) (ap are_apart (known_later known (before ++ i ∷ []) is) ∙ all) in
+      let here =
+      apart_fewer (known_behind known (before ++ i ∷ [])) (values kinds.Prefix is)
+      (ap are_apart (known_later known (before ++ i ∷ []) is) ∙ all) in
       ap (λ o. option_or o (first (nested_behind line known) (before ++ i ∷ []) is))
       (apart_here line (known_behind known before) i (sym (ap are_apart (known_on known before i)) ∙ here))
       ∙ nested_none (before ++ i ∷ []) is all

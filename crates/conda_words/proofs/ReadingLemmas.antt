@@ -51,7 +51,8 @@ not_err : {A F : Type 0} (b : Bool) (f : F) (m : Read A F) (y : A) → (if b the
 not_err true f m y h = cc
 not_err false f m y h = h
 
-known_value : (sub : Subcommand) (before : List Item) (r next : Reading) (kind : Kind) (at : ℕ) (value : Option (List ℕ)) → with_any_value sub before r kind at value ≡ Ok next → is_none value ≡ false → is_kind kind kinds.Strange ≡ false
+known_value : (sub : Subcommand) (before : List Item) (r next : Reading) (kind : Kind) (at : ℕ) (value : Option (List ℕ))
+    → with_any_value sub before r kind at value ≡ Ok next → is_none value ≡ false → is_kind kind kinds.Strange ≡ false
 known_value sub before r next kinds.Strange at None h there = cc
 known_value sub before r next kinds.Strange at (Some value) h there = cc
 known_value sub before r next kinds.Word at value h there = refl
@@ -69,56 +70,19 @@ pub or_false : (a b : Bool) → (a || b) ≡ false → (a ≡ false) × (b ≡ f
 or_false true b h = cc
 or_false false b h = (refl, h)
 
-whole_item : (sub : Subcommand) (before : List Item) (r next : Reading) (i : Item) → with_item sub before r i ≡ Ok next → is_none i.value ≡ false → IsWhole i
+whole_item : (sub : Subcommand) (before : List Item) (r next : Reading) (i : Item) → with_item sub before r i ≡ Ok next
+    → is_none i.value ≡ false → IsWhole i
 unfolding with_item
 whole_item sub before r next i h there = record {
-  known = known_value sub before r next i.kind i.value_at i.value (not_err (not (repeats sub i.kind) && given i.kind before) _ _ next h) there;
+  known = known_value sub before r next i.kind i.value_at i.value
+      (not_err (not (repeats sub i.kind) && given i.kind before) _ _ next h) there;
   there = there;
 }
 
-pub right_whole : (sub : Subcommand) (before : List Item) (r last : Reading) (is : List Item) → with_items sub before r is ≡ Ok last → lacks_value is ≡ false → AreWhole is
+pub right_whole : (sub : Subcommand) (before : List Item) (r last : Reading) (is : List Item) → with_items sub before r is ≡ Ok last
+    → lacks_value is ≡ false → AreWhole is
 right_whole sub before r last [] h there = tt
 right_whole sub before r last (i ∷ is) h there =
     let parts = bind_ok (with_item sub before r i) (λ next. with_items sub (before ++ i ∷ []) next is) last h in
     let all = or_false (is_none i.value) (lacks_value is) there in
     (whole_item sub before r parts.value i parts.first all.0, right_whole sub (before ++ i ∷ []) parts.value last is parts.second all.1)
-
--- the first bad item, behind others
-pub record BadBehind (sub : Subcommand) (before : List Item) (r : Reading) (is : List Item) (at : ℕ) (why : Why) : Type 0 where
-  pub front : List Item
-  pub bad : Item
-  pub behind : List Item
-  pub last : Reading
-  pub split : is ≡ front ++ bad ∷ behind
-  pub right : with_items sub before r front ≡ Ok last
-  pub wrong : with_item sub (before ++ front) last bad ≡ Err (at, why)
-
-pub items_bad : (sub : Subcommand) (before : List Item) (r : Reading) (is : List Item) (at : ℕ) (why : Why) → with_items sub before r is ≡ Err (at, why) → BadBehind sub before r is at why
-items_bad sub before r [] at why h = cc
-items_bad sub before r (i ∷ is) at why h = by (bind_err (with_item sub before r i) (λ next. with_items sub (before ++ i ∷ []) next is) (at, why) h) (λ next. items_bad sub (before ++ i ∷ []) next is at why)
-  where
-    by : (with_item sub before r i ≡ Err (at, why)) ⊎ SecondErr (with_item sub before r i) (λ next. with_items sub (before ++ i ∷ []) next is) (at, why) → ((next : Reading) → with_items sub (before ++ i ∷ []) next is ≡ Err (at, why) → BadBehind sub (before ++ i ∷ []) next is at why) → BadBehind sub before r (i ∷ is) at why
-    by (inl e) rest = record { front = []; bad = i; behind = is; last = r; split = refl; right = refl; wrong = ap (λ b. with_item sub b r i) (append-nil before) ∙ e }
-    by (inr s) rest =
-        let more = rest s.value s.second in record {
-          front = i ∷ more.front;
-          bad = more.bad;
-          behind = more.behind;
-          last = more.last;
-          split = ap (λ l. i ∷ l) more.split;
-          right = ap (λ m. m >>= (λ n. with_items sub (before ++ i ∷ []) n more.front)) s.first ∙ more.right;
-          wrong = ap (λ b. with_item sub b more.last more.bad) (sym (append_assoc before (i ∷ []) more.front)) ∙ more.wrong;
-        }
-
-ok_same : (x y : Reading) → (let m : Read Reading Fault = Ok x in m) ≡ Ok y → x ≡ y
-ok_same x y e = cc
-
-pub bad_items : (sub : Subcommand) (before : List Item) (r : Reading) (front : List Item) (bad : Item) (behind : List Item) (last : Reading) (f : Fault) → with_items sub before r front ≡ Ok last → with_item sub (before ++ front) last bad ≡ Err f → with_items sub before r (front ++ bad ∷ behind) ≡ Err f
-bad_items sub before r [] bad behind last f right wrong =
-    ap (λ m. m >>= (λ next. with_items sub (before ++ bad ∷ []) next behind))
-    (ap (λ x. with_item sub before x bad) (ok_same r last right) ∙ ap (λ b. with_item sub b last bad) (sym (append-nil before)) ∙ wrong)
-bad_items sub before r (i ∷ front) bad behind last f right wrong =
-    let parts = bind_ok (with_item sub before r i) (λ next. with_items sub (before ++ i ∷ []) next front) last right in
-    ap (λ m. m >>= (λ next. with_items sub (before ++ i ∷ []) next (front ++ bad ∷ behind))) parts.first
-    ∙ bad_items sub (before ++ i ∷ []) parts.value front bad behind last f parts.second
-    (ap (λ b. with_item sub b last bad) (append_assoc before (i ∷ []) front) ∙ wrong)

@@ -55,9 +55,11 @@ values_on kind before i =
 abbrev own_verbs : Words → Item → List Verb
 own_verbs words i = cons_option (option_and_then (verb_named words i.kind) i.value) []
 
-verbs_on : (words : Words) (before : List Item) (i : Item) → verbs_named words (before ++ i ∷ []) ≡ onto (verbs_named words before) (own_verbs words i)
+verbs_on : (words : Words) (before : List Item) (i : Item)
+    → verbs_named words (before ++ i ∷ []) ≡ onto (verbs_named words before) (own_verbs words i)
 verbs_on words before i =
-    filter_map-append (λ i. option_and_then (verb_named words i.kind) i.value) before (i ∷ []) ∙ onto_is (verbs_named words before) (own_verbs words i)
+    filter_map-append (λ i. option_and_then (verb_named words i.kind) i.value) before (i ∷ [])
+    ∙ onto_is (verbs_named words before) (own_verbs words i)
 
 pub known_append : (known xs ys : List (List ℕ)) → known_with known (xs ++ ys) ≡ known_with (known_with known xs) ys
 known_append known [] ys = refl
@@ -91,7 +93,8 @@ later_assoc (Some x) (Some y) (Some z) = refl
 abbrev pub nested_here : Option ℕ → List (List ℕ) → Item → Option ℕ
 nested_here line known i =
     if is_kind i.kind kinds.Prefix
-    then option_and_then (λ p. if is_among p known then None else if list_any (is_nested p) known then Some (unwrap_or line i.value_at) else None) i.value
+    then option_and_then (λ p. if is_among p known then None else if list_any (is_nested p) known then Some (unwrap_or line i.value_at)
+    else None) i.value
     else None
 
 abbrev pub nested_behind : Option ℕ → List (List ℕ) → List Item → Item → Option ℕ
@@ -116,13 +119,15 @@ also_gate at why limit more false m y h = refl
 
 not_gate : (at : ℕ) (why : Why) (limit : Option Fault) (more : Option Why) (bad : Bool) (m : Read Reading Fault) (y : Reading)
     → m ≡ unless (option_or (option_map (λ w. (at, w)) more) limit) y
-    → (if bad then refused at why else m) ≡ unless (option_or (option_map (λ w. (at, w)) (option_or (because_not why (not bad)) more)) limit) y
+    → (if bad then refused at why else m) ≡ unless
+    (option_or (option_map (λ w. (at, w)) (option_or (because_not why (not bad)) more)) limit) y
 not_gate at why limit more true m y h = refl
 not_gate at why limit more false m y h = h
 
 neither_gate : (at : ℕ) (why : Why) (limit : Option Fault) (more : Option Why) (good : Bool) (m : Read Reading Fault) (y : Reading)
     → m ≡ unless (option_or (option_map (λ w. (at, w)) more) limit) y
-    → (if not good then refused at why else m) ≡ unless (option_or (option_map (λ w. (at, w)) (option_or (because_not why good) more)) limit) y
+    → (if not good then refused at why else m) ≡ unless
+    (option_or (option_map (λ w. (at, w)) (option_or (because_not why good) more)) limit) y
 neither_gate at why limit more true m y h = h
 neither_gate at why limit more false m y h = refl
 
@@ -136,7 +141,8 @@ number_gate : (at low high : ℕ) (v : List ℕ) (make : ℕ → Reading) (y : R
 number_gate at low high v make y h = by (number_in low high v) refl
   where
     by : (o : Option ℕ) → number_in low high v ≡ o
-        → (numbered at o >>= (λ n. Ok (make n))) ≡ unless (option_or (option_map (λ w. (at, w)) (because_not whys.Number (is_some o))) None) y
+        → (numbered at o >>= (λ n. Ok (make n))) ≡ unless
+        (option_or (option_map (λ w. (at, w)) (because_not whys.Number (is_some o))) None) y
     by None e = refl
     by (Some n) e = ap Ok (h n e)
 
@@ -170,7 +176,8 @@ module _ (line : Option ℕ) (known : List (List ℕ)) (nested : Option ℕ) (ve
   next_reading words before i = record {
     line = line;
     known = known_with known (onto (values kinds.Prefix before) (value_of kinds.Prefix i));
-    nested = later nested (later (first (nested_behind line known) [] before) (nested_here line (known_with known (values kinds.Prefix before)) i));
+    nested = later nested
+        (later (first (nested_behind line known) [] before) (nested_here line (known_with known (values kinds.Prefix before)) i));
     command = next_command words before i;
   }
 
@@ -189,8 +196,10 @@ module _ (line : Option ℕ) (known : List (List ℕ)) (nested : Option ℕ) (ve
 
   reading_next : (words : Words) (before : List Item) (i : Item) → reading_of words (before ++ i ∷ []) ≡ next_reading words before i
   reading_next words before i =
-      let nest : first (nested_behind line known) [] (before ++ i ∷ []) ≡ later (first (nested_behind line known) [] before) (nested_behind line known before i) =
-      first_append (nested_behind line known) [] before (i ∷ []) ∙ one (first (nested_behind line known) [] before) (nested_behind line known before i) in
+      let nest : first (nested_behind line known) [] (before ++ i ∷ []) ≡ later (first (nested_behind line known) [] before)
+      (nested_behind line known before i) =
+      first_append (nested_behind line known) [] before (i ∷ [])
+      ∙ one (first (nested_behind line known) [] before) (nested_behind line known before i) in
       let command = command_next words before i in
       let prefixes = values_on kinds.Prefix before i in
       λ k. record { line = line; known = known_with known (prefixes k); nested = later nested (nest k); command = command k }
@@ -238,7 +247,8 @@ module _ (line : Option ℕ) (known : List (List ℕ)) (nested : Option ℕ) (ve
     known_here = known_with known (values kinds.Prefix before)
 
     prefix_step : (at value_at : ℕ) (v : List ℕ)
-        → with_any_value sub before r kinds.Prefix value_at (Some v) ≡ Comes sub.words before kinds.Prefix at value_at (Some v) (prefix_cause (values kinds.Prefix before) v)
+        → with_any_value sub before r kinds.Prefix value_at (Some v) ≡ Comes sub.words before kinds.Prefix at value_at (Some v)
+        (prefix_cause (values kinds.Prefix before) v)
     prefix_step at value_at v =
         not_gate value_at whys.Twice limit (because_not whys.Path (is_prefix v)) (is_among v (values kinds.Prefix before)) _ y
         (last_gate value_at whys.Path limit (is_prefix v) _ y (by (is_among v known_here) refl (nat_lt (length known_here) 64)))
@@ -267,7 +277,11 @@ module _ (line : Option ℕ) (known : List (List ℕ)) (nested : Option ℕ) (ve
             λ k. record { line = line; known = known_is k; nested = nested_is k; command = y.command }
 
         new : is_among v known_here ≡ false
-            → record r { known = r.known ++ v ∷ []; nested = option_or r.nested here; command = record r.command { prefixes = r.command.prefixes ++ v ∷ [] } } ≡ y
+            → record r {
+              known = r.known ++ v ∷ [];
+              nested = option_or r.nested here;
+              command = record r.command { prefixes = r.command.prefixes ++ v ∷ [] };
+            } ≡ y
         new e =
             let known_is = known_then false e in
             let nested_is : option_or (later nested nest) here ≡ later nested (later nest (if is_among v known_here then None else here)) =
@@ -276,7 +290,11 @@ module _ (line : Option ℕ) (known : List (List ℕ)) (nested : Option ℕ) (ve
 
         by : (k : Bool) → is_among v known_here ≡ k → (m : Bool)
             → (if k then Ok (record r { command = record r.command { prefixes = r.command.prefixes ++ v ∷ [] } })
-            else if m then Ok (record r { known = r.known ++ v ∷ []; nested = option_or r.nested here; command = record r.command { prefixes = r.command.prefixes ++ v ∷ [] } })
+            else if m then Ok (record r {
+              known = r.known ++ v ∷ [];
+              nested = option_or r.nested here;
+              command = record r.command { prefixes = r.command.prefixes ++ v ∷ [] };
+            })
             else refused value_at whys.Limit)
             ≡ unless (option_map (λ why. (value_at, why)) (because_not whys.Limit (k || m))) y
         by true e m = ap Ok (among e)
@@ -284,21 +302,27 @@ module _ (line : Option ℕ) (known : List (List ℕ)) (nested : Option ℕ) (ve
         by false e false = refl
 
     value_step : (kind : Kind) (at value_at : ℕ) (v : List ℕ)
-        → with_any_value sub before r kind value_at (Some v) ≡ Comes sub.words before kind at value_at (Some v) (value_cause sub.words before kind v)
+        → with_any_value sub before r kind value_at (Some v) ≡ Comes sub.words before kind at value_at (Some v)
+        (value_cause sub.words before kind v)
     value_step kinds.Word at value_at v = word_step sub.words before (count kinds.Word before) at value_at v
     value_step kinds.Prefix at value_at v = prefix_step at value_at v
     value_step kinds.Channel at value_at v =
         let y : Reading = next_reading sub.words before (item kinds.Channel at value_at (Some v)) in
-        not_gate value_at whys.Twice None (option_or (because_not whys.Channel (is_channel v)) (because_not whys.Limit (nat_lt (length (values kinds.Channel before)) 8)))
+        not_gate value_at whys.Twice None
+        (option_or (because_not whys.Channel (is_channel v)) (because_not whys.Limit (nat_lt (length (values kinds.Channel before)) 8)))
         (is_among v (values kinds.Channel before)) _ y
-        (neither_gate value_at whys.Channel None (because_not whys.Limit (nat_lt (length (values kinds.Channel before)) 8)) (is_channel v) _ y
+        (neither_gate value_at whys.Channel None (because_not whys.Limit (nat_lt (length (values kinds.Channel before)) 8))
+        (is_channel v) _ y
         (gate value_at whys.Limit (nat_lt (length (values kinds.Channel before)) 8) y y refl))
     value_step kinds.ChannelDir at value_at v =
-        ap (λ t. Ok (record r { command = record r.command { channel_dir = t } })) (sym (last_push (codes "channels") (values kinds.ChannelDir before) v))
+        ap (λ t. Ok (record r { command = record r.command { channel_dir = t } }))
+        (sym (last_push (codes "channels") (values kinds.ChannelDir before) v))
     value_step kinds.PkgsDir at value_at v =
-        ap (λ t. Ok (record r { command = record r.command { pkgs_dir = t } })) (sym (last_push (codes "pkgs") (values kinds.PkgsDir before) v))
+        ap (λ t. Ok (record r { command = record r.command { pkgs_dir = t } }))
+        (sym (last_push (codes "pkgs") (values kinds.PkgsDir before) v))
     value_step kinds.Jobs at value_at v =
-        number_gate value_at 1 16 v (λ n. record r { command = record r.command { jobs = n } }) (next_reading sub.words before (item kinds.Jobs at value_at (Some v))) (λ n e.
+        number_gate value_at 1 16 v (λ n. record r { command = record r.command { jobs = n } })
+        (next_reading sub.words before (item kinds.Jobs at value_at (Some v))) (λ n e.
         ap (λ t. record r { command = record r.command { jobs = t } })
         (sym (ap (last_or 4) (filter_map-append (number_in 1 16) (values kinds.Jobs before) (v ∷ [])
         ∙ ap (λ o. filter_map (number_in 1 16) (values kinds.Jobs before) ++ cons_option o []) e)
@@ -307,7 +331,8 @@ module _ (line : Option ℕ) (known : List (List ℕ)) (nested : Option ℕ) (ve
         gate value_at whys.Unknown (is_virtual v)
         (record r { command = record r.command { virtuals = r.command.virtuals ++ virtual_of v ∷ [] } })
         (next_reading sub.words before (item kinds.Virtual at value_at (Some v)))
-        (ap (λ t. record r { command = record r.command { virtuals = t } }) (sym (map-append virtual_of (values kinds.Virtual before) (v ∷ []))))
+        (ap (λ t. record r { command = record r.command { virtuals = t } })
+        (sym (map-append virtual_of (values kinds.Virtual before) (v ∷ []))))
     value_step kinds.Revision at value_at v =
         number_gate value_at 0 4294967295 v (λ n. record r { command = record r.command { verb = verbs.Revert n } })
         (next_reading sub.words before (item kinds.Revision at value_at (Some v))) (λ n e.
@@ -315,12 +340,14 @@ module _ (line : Option ℕ) (known : List (List ℕ)) (nested : Option ℕ) (ve
         (sym (ap (λ o. last_or verb (onto (verbs_named sub.words before) (cons_option (option_map verbs.Revert o) []))) e
         ∙ last_push verb (verbs_named sub.words before) (verbs.Revert n))))
     value_step kinds.Revisions at value_at v =
-        ap (λ t. Ok (record r { command = record r.command { verb = t } })) (sym (last_push verb (verbs_named sub.words before) verbs.Revisions))
+        ap (λ t. Ok (record r { command = record r.command { verb = t } }))
+        (sym (last_push verb (verbs_named sub.words before) verbs.Revisions))
     value_step kinds.Copy at value_at v =
         ap (λ t. Ok (record r { command = record r.command { copy = t } })) (sym (some_pushed (values kinds.Copy before) v))
     value_step kinds.Strange at value_at v = refl
 
-    none_step : (kind : Kind) (at value_at : ℕ) → (let m : Read Reading Fault = Ok r in m) ≡ Comes sub.words before kind at value_at None None
+    none_step : (kind : Kind) (at value_at : ℕ)
+        → (let m : Read Reading Fault = Ok r in m) ≡ Comes sub.words before kind at value_at None None
     none_step kinds.Word at value_at = refl
     none_step kinds.Prefix at value_at = refl
     none_step kinds.Channel at value_at = refl
@@ -334,7 +361,8 @@ module _ (line : Option ℕ) (known : List (List ℕ)) (nested : Option ℕ) (ve
     none_step kinds.Strange at value_at = refl
 
     any_step : (kind : Kind) (at value_at : ℕ) (o : Option (List ℕ))
-        → with_any_value sub before r kind value_at o ≡ Comes sub.words before kind at value_at o (option_and_then (value_cause sub.words before kind) o)
+        → with_any_value sub before r kind value_at o ≡ Comes sub.words before kind at value_at o
+        (option_and_then (value_cause sub.words before kind) o)
     any_step kind at value_at None = none_step kind at value_at
     any_step kind at value_at (Some v) = value_step kind at value_at v
 
@@ -346,12 +374,14 @@ module _ (line : Option ℕ) (known : List (List ℕ)) (nested : Option ℕ) (ve
       where
         by : (k : Bool)
             → (if k then refused at whys.Twice else with_any_value sub before r kind value_at o)
-            ≡ unless (option_or (if k then Some (at, whys.Twice) else option_map (λ why. (value_at, why)) (option_and_then (value_cause sub.words before kind) o))
+            ≡ unless (option_or (if k then Some (at, whys.Twice) else option_map (λ why. (value_at, why))
+            (option_and_then (value_cause sub.words before kind) o))
             (limit_cause known before (item kind at value_at o))) (next_reading sub.words before (item kind at value_at o))
         by true = refl
         by false = any_step kind at value_at o
 
-    pub item_step : (i : Item) → with_item sub before r i ≡ unless (item_fault sub sub.words known before i) (reading_of sub.words (before ++ i ∷ []))
+    pub item_step : (i : Item)
+        → with_item sub before r i ≡ unless (item_fault sub sub.words known before i) (reading_of sub.words (before ++ i ∷ []))
     item_step i =
         item_at i.kind i.at i.value_at i.value
         ∙ ap (unless (item_fault sub sub.words known before i)) (sym (reading_next sub.words before i))
@@ -371,5 +401,7 @@ module _ (line : Option ℕ) (known : List (List ℕ)) (nested : Option ℕ) (ve
           ≡ unless (first (item_fault sub sub.words known) (before ++ i ∷ []) is) (reading_of sub.words ((before ++ i ∷ []) ++ is))
           → (unless o (reading_of sub.words (before ++ i ∷ [])) >>= (λ next. with_items sub (before ++ i ∷ []) next is))
           ≡ unless (option_or o (first (item_fault sub sub.words known) (before ++ i ∷ []) is)) (reading_of sub.words (before ++ i ∷ is))
-      by None h = h ∙ ap (λ b. unless (first (item_fault sub sub.words known) (before ++ i ∷ []) is) (reading_of sub.words b)) (append_assoc before (i ∷ []) is)
+      by None h =
+          h ∙ ap (λ b. unless (first (item_fault sub sub.words known) (before ++ i ∷ []) is) (reading_of sub.words b))
+          (append_assoc before (i ∷ []) is)
       by (Some f) h = refl

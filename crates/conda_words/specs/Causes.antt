@@ -64,7 +64,8 @@ abbrev pub limit_cause : List (List ℕ) → List Item → Item → Option (ℕ 
 limit_cause known before i =
     let all : List (List ℕ) = known_with known (values kinds.Prefix before) in
     if is_kind i.kind kinds.Prefix
-    then option_map (λ why. (i.value_at, why)) (option_and_then (λ p. because_not whys.Limit (is_among p all || nat_lt (length all) 64)) i.value)
+    then option_map (λ why. (i.value_at, why))
+    (option_and_then (λ p. because_not whys.Limit (is_among p all || nat_lt (length all) 64)) i.value)
     else None
 
 abbrev pub item_fault : Subcommand → Words → List (List ℕ) → List Item → Item → Option (ℕ × Why)
@@ -73,4 +74,5 @@ item_fault sub words known before i = option_or (item_cause sub words before i) 
 -- a value, the prefix or a plain word isn't there
 abbrev pub is_missing : Words → List Item → Command → Bool
 is_missing words is c =
-    list_any (λ i. is_none i.value) is || (has_one_prefix c.verb && not (length c.prefixes == 1)) || nat_lt (count kinds.Word is) (least words)
+    list_any (λ i. is_none i.value) is || (has_one_prefix c.verb && not (length c.prefixes == 1)) || nat_lt (count kinds.Word is)
+    (least words)

@@ -19,7 +19,7 @@ pub record IsLine (n : ℕ) (text : List ℕ) (line : Line) : Type 0 where
   pub words : List (List ℕ)
   pub fields : parted space text ≡ session ∷ words
   pub number : line.number ≡ n
-  pub numbered : number_in 0 15 session ≡ Some line.session
+  pub session_is : number_in 0 15 session ≡ Some line.session
   pub filled : list_any is_empty words ≡ false
   pub command : IsCommand true words line.command
 
@@ -54,7 +54,8 @@ pub record MeansLines (text : List ℕ) (lines : List Line) : Type 0 where
 -- Words of a line have a fault for a reason, where these prefixes are known of the lines before: their own, or an empty word, which
 -- is unknown; of two the one further left, and at one word the empty one.
 pub data IsBadFor (known words : List (List ℕ)) : Why → Type 0 where
-  own : (at : ℕ) (why : Why) → HasCommandFault true known words at why → list_any is_empty (take (at + 1) words) ≡ false → IsBadFor known words why
+  own : (at : ℕ) (why : Why) → HasCommandFault true known words at why → list_any is_empty (take (at + 1) words) ≡ false
+      → IsBadFor known words why
   empty : (at : ℕ) → slice_get words at ≡ Some [] → ((n : ℕ) (why : Why) → HasCommandFault true known words n why → at ≤ n)
       → IsBadFor known words whys.Unknown
 
@@ -88,5 +89,5 @@ pub record IsNestedLine (texts : List (List ℕ)) (n : ℕ) (why : Why) : Type 0
   pub place : n ≡ line.number
   pub cause : why ≡ whys.Nested
 
-abbrev pub IsFirstBadLine : List ℕ → ℕ → Why → Type 0
-IsFirstBadLine text n why = IsBadAt (lines_of text) n why ⊎ IsNestedLine (lines_of text) n why
+abbrev pub HasLineFault : List ℕ → ℕ → Why → Type 0
+HasLineFault text n why = IsBadAt (lines_of text) n why ⊎ IsNestedLine (lines_of text) n why

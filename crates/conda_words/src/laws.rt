@@ -1,6 +1,6 @@
 ghost use Rattle.std.specs.Prelude.{◌≡◌, ◌↔◌, ℕ, [], ◌∷◌, List, Err, Ok, true};
 ghost use Rattle.conda_words.specs.Grammar.{HasFault, Means};
-ghost use Rattle.conda_words.specs.Lines.{IsFirstBadLine, MeansLines};
+ghost use Rattle.conda_words.specs.Lines.{HasLineFault, MeansLines};
 ghost use Rattle.conda_words.specs.Reading.{words_read};
 ghost use Rattle.conda_words.specs.Scripts.{script_read};
 ghost use Rattle.conda_words.specs.Table.{has_one_prefix};
@@ -29,7 +29,7 @@ pub fn script_laws()
     ensures meaning { (text : List ℕ) (lines : List Line) →
         (script_read text ≡ Ok lines) ↔ MeansLines text lines }
     ensures fault { (text : List ℕ) (n : ℕ) (why : Why) →
-        (script_read text ≡ Err (n, why)) ↔ IsFirstBadLine text n why }
+        (script_read text ≡ Err (n, why)) ↔ HasLineFault text n why }
 {
     cut_laws();
 }

@@ -11,7 +11,8 @@ loop-run-preserved c =
     let next = c.last_of-last.ensures ∙ ap (last_of c.loop-run.last) c.as_bytes.ensures.value in (
       search rules,
       omega (arith, parts_length c.loop-run.left.now c.in-Some.run'.now c.in-Some.rest.now cut.0 cut.1 cut.2, c.loop-run.invariant.1),
-      seen_step (λ m. m.1) (string_bytes c.loop-run.made) (string_bytes c.add_run.new.text) c.loop-run.last c.last_of-last.result c.loop-run.at
+      seen_step (λ m. m.1) (string_bytes c.loop-run.made)
+          (string_bytes c.add_run.new.text) c.loop-run.last c.last_of-last.result c.loop-run.at
           c.loop-run.left.now c.in-Some.run'.now c.in-Some.rest.now cut.0 cut.1 cut.2 next c.in_ok-add_run.ensures.text
           ∙ c.loop-run.invariant.2,
       seen_step (λ m. m.0) c.loop-run.places.items c.add_run.new.places.items c.loop-run.last c.last_of-last.result c.loop-run.at
@@ -24,7 +25,8 @@ returns-clause-text c =
     let found = split_once_first 32 c.loop-run.left.now c.split_once.result c.split_once.ensures.cases (lit< tt) in
     let none = rw c.in_default.is at found in
     c.from_string.ensures ∙ c.in_ok-add_run-2.ensures.text
-    ∙ sym (seen_last (λ m. m.1) (string_bytes c.loop-run.made) c.loop-run.last c.loop-run.at c.loop-run.left.now none) ∙ c.loop-run.invariant.2
+    ∙ sym (seen_last (λ m. m.1) (string_bytes c.loop-run.made) c.loop-run.last c.loop-run.at c.loop-run.left.now none)
+    ∙ c.loop-run.invariant.2
 
 pub returns-clause-places : goal.returns-clause-places
 returns-clause-places c =

@@ -1,4 +1,4 @@
-use Rattle.std.proofs.Common.{◌≡◌, List, ℕ, subst, sym}
+use Rattle.std.proofs.Common.{subst, sym}
 use Rattle.conda_clause.specs.Beside.{IsBesideBuild}
 use Rattle.conda_clause.proofs.BuildLemmas.{beside_holds, is_beside, only_beside}
 use Rattle.conda_clause.proofs.laws.beside_laws.Goals as goal

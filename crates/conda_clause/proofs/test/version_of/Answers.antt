@@ -15,14 +15,17 @@ returns-in_default c = absurd (c.in_default.ensures.cases.0 (chars_utf8 c.args.t
 pub returns-in-Ok-read : goal.returns-in-Ok-read
 returns-in-Ok-read c =
     let text = c.args.text.now in
-    let bare : trimmed c.in-Ok.text.now ≡ text = ap trimmed c.in-Ok.ensures.cases.0 ∙ chars_bare c.trimmed_law.ensures.bare text (sym c.if-not-has_version_chars.ensures) in
+    let bare : trimmed c.in-Ok.text.now ≡ text =
+    ap trimmed c.in-Ok.ensures.cases.0 ∙ chars_bare c.trimmed_law.ensures.bare text (sym c.if-not-has_version_chars.ensures) in
     let found = unless_ok (offence (trimmed c.in-Ok.text.now)) (trimmed c.in-Ok.text.now) c.in-Ok-read.version c.in-Ok-read.ensures in
     ap Some (found.1 ∙ bare) ∙ sym (version_is text (ap offence (sym bare) ∙ found.0))
 
 pub returns-in-Err-BadVersion : goal.returns-in-Err-BadVersion
 returns-in-Err-BadVersion c =
     let text = c.args.text.now in
-    let bare : trimmed c.in-Ok.text.now ≡ text = ap trimmed c.in-Ok.ensures.cases.0 ∙ chars_bare c.trimmed_law.ensures.bare text (sym c.if-not-has_version_chars.ensures) in
+    let bare : trimmed c.in-Ok.text.now ≡ text =
+    ap trimmed c.in-Ok.ensures.cases.0 ∙ chars_bare c.trimmed_law.ensures.bare text (sym c.if-not-has_version_chars.ensures) in
     let cause = rw c.in-Err-BadVersion.field-0-is at c.in-Err-BadVersion.ensures in
     let fault : ℕ × VersionWhy = (c.in-Err-BadVersion.field-0-0, c.in-Err-BadVersion.field-0-1) in
-    sym (version_is_none text fault (ap offence (sym bare) ∙ unless_err (offence (trimmed c.in-Ok.text.now)) (trimmed c.in-Ok.text.now) fault cause))
+    sym (version_is_none text fault
+    (ap offence (sym bare) ∙ unless_err (offence (trimmed c.in-Ok.text.now)) (trimmed c.in-Ok.text.now) fault cause))

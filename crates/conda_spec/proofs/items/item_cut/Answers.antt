@@ -14,7 +14,8 @@ cut_at : (text bytes : List ℕ) (at : ℕ) → bytes ≡ text → Some at ≡ i
 cut_at text bytes at same h =
     let ends = first_item 0 None text at (ap (item_end 0 None) (sym same) ∙ sym h) in
     let here : ends.len ≡ at = omega (arith, ends.place) in
-    let P : ℕ → Type 0 = λ n. (n < length text) × (get_or text n 0 ≡ 44) × (items_of None text ≡ take n text ∷ items_of None (drop (n + 1) text)) in
+    let P : ℕ → Type 0 =
+    λ n. (n < length text) × (get_or text n 0 ≡ 44) × (items_of None text ≡ take n text ∷ items_of None (drop (n + 1) text)) in
     let all = subst P here (ends.inside, ends.comma, ends.items) in
     record { inside = all.0; comma = all.1; items = all.2 }
 
@@ -39,4 +40,5 @@ returns-in-Some-clause-items c =
     ∙ ap (λ q. c.range.result.now ∷ items_of None q) (sym c.range_from.ensures.value)
 
 pub returns-in-None-clause-items : goal.returns-in-None-clause-items
-returns-in-None-clause-items c = last_item 0 None c.args.text.now (ap (item_end 0 None) (sym c.as_bytes.ensures.value) ∙ sym c.in-None.ensures)
+returns-in-None-clause-items c =
+    last_item 0 None c.args.text.now (ap (item_end 0 None) (sym c.as_bytes.ensures.value) ∙ sym c.in-None.ensures)

@@ -25,7 +25,8 @@ loop-first-preserved c = (
   search rules,
   omega (arith, c.loop-first.invariant.1, c.in-Some.ensures.len),
   c.in-Ok.ensures.good,
-  sym (items_next c.loop-first.given c.in-Ok.next c.loop-first.at c.in-Some.first.now (items_of None c.in-Some.rest.now) c.in-Ok.ensures.read)
+  sym (items_next c.loop-first.given c.in-Ok.next c.loop-first.at c.in-Some.first.now
+      (items_of None c.in-Some.rest.now) c.in-Ok.ensures.read)
       ∙ ap (items_read c.loop-first.given c.loop-first.at) (sym c.in-Some.ensures.items)
       ∙ c.loop-first.invariant.3,
 )

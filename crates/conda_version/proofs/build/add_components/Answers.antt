@@ -14,7 +14,8 @@ loop-end-preserved c =
     let left : List ℕ = c.loop-end.left.now in
     let end : ℕ = c.in-Some.end in
     let made = c.loop-end.made in
-    let piece : c.put_runs.new.runs.items ≡ component_of (take end left) = c.in_ok-put_runs.ensures ∙ ap component_of c.split_at.ensures.front in
+    let piece : c.put_runs.new.runs.items ≡ component_of (take end left) =
+    c.in_ok-put_runs.ensures ∙ ap component_of c.split_at.ensures.front in
     let added : c.add.new.self ≡ made ++ component_of (take end left) ∷ [] = c.in_ok-add.ensures.ok ∙ ap (λ p. made ++ p ∷ []) piece in
     let back : c.split_at-in-Some.result.1.now ≡ drop (end + 1) left = c.split_at-in-Some.ensures.back in (
       c.in_ok-add.ensures.taken,

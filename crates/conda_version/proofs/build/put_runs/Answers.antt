@@ -8,7 +8,8 @@ use Rattle.conda_version.proofs.build.put_runs.Goals as goal
 pub run_of-requires : goal.run_of-requires
 run_of-requires c =
     let left : List ℕ = c.loop-left.left.now in
-    let front : c.split_at.result.0.now ≡ take (run_len left) left = c.split_at.ensures.front ∙ ap (λ n. take n left) c.run_len.ensures.value in
+    let front : c.split_at.result.0.now ≡ take (run_len left) left =
+    c.split_at.ensures.front ∙ ap (λ n. take n left) c.run_len.ensures.value in
     subst HasValue (sym front) (first_run_value left c.loop-left.invariant.0)
 
 pub loop-left-preserved : goal.loop-left-preserved

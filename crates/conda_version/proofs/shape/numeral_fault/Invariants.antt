@@ -6,4 +6,5 @@ use Rattle.conda_version.proofs.shape.numeral_fault.Given as goal
 
 abbrev pub invariant-loop-at : goal.invariant-loop-at
 invariant-loop-at l =
-    (l.digits + l.at ≤ length l.text) × (l.digits ≡ prefix_len is_ascii_digit (drop l.at l.text)) × (l.found ≡ numeral_from l.at (drop l.at l.text))
+    (l.digits + l.at ≤ length l.text) × (l.digits ≡ prefix_len is_ascii_digit (drop l.at l.text))
+    × (l.found ≡ numeral_from l.at (drop l.at l.text))

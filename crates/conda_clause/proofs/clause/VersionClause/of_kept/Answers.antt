@@ -12,5 +12,6 @@ invariant_of-result c =
     let lower : text ≡ map to_ascii_lowercase c.args.kept.now = c.from_string-text.ensures ∙ c.in_ok-to_ascii_lowercase.ensures.ok in (
       ap clause_fault (sym same) ∙ sym c.in_ok-read_tokens.ensures.fault ∙ c.in-None.is,
       ap (map to_ascii_lowercase) lower ∙ lowered_twice c.args.kept.now ∙ sym lower,
-      c.from_vec.ensures ∙ c.in_ok-read_tokens.ensures.tokens c.in-None.is ∙ ap (λ made. made ++ tokens c.as_bytes.result.now) c.new-tokens.ensures.items ∙ ap tokens same,
+      c.from_vec.ensures ∙ c.in_ok-read_tokens.ensures.tokens c.in-None.is
+          ∙ ap (λ made. made ++ tokens c.as_bytes.result.now) c.new-tokens.ensures.items ∙ ap tokens same,
     )

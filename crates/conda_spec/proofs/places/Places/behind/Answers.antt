@@ -14,13 +14,15 @@ within xs i d end h = rw (slice_get-get_or xs i d h) refl
 pub overflow_add-result-else-i-count : goal.overflow_add-result-else-i-count
 overflow_add-result-else-i-count c =
     let places : List ℕ = c.args.self.now.places.items in
-    let short : length places ≤ c.args.start + c.args.more = omega (arith, c.if-i-count.false, c.saturating_add-i.ensures, c.len-count.ensures, ap length c.as_slice-places.ensures.value) in
+    let short : length places ≤ c.args.start + c.args.more =
+    omega (arith, c.if-i-count.false, c.saturating_add-i.ensures, c.len-count.ensures, ap length c.as_slice-places.ensures.value) in
     let fits = c.args.self.now.fits (c.args.start + c.args.more) in
     omega (arith, rw (past places (c.args.start + c.args.more) c.args.self.now.end short) at fits)
 
 pub returns-then-i-count : goal.returns-then-i-count
 returns-then-i-count c =
-    let same : c.saturating_add-i.result ≡ c.args.start + c.args.more = omega (arith, c.if-i-count.true, c.len-count.type_inv, c.saturating_add-i.ensures) in
+    let same : c.saturating_add-i.result ≡ c.args.start + c.args.more =
+    omega (arith, c.if-i-count.true, c.len-count.type_inv, c.saturating_add-i.ensures) in
     let places : List ℕ = c.args.self.now.places.items in
     let inside : c.args.start + c.args.more < length places = omega (arith, same, c.if-i-count.true, c.len-count.ensures) in
     ap (λ n. c.args.self.now.at + n)
@@ -31,5 +33,6 @@ returns-then-i-count c =
 pub returns-else-i-count : goal.returns-else-i-count
 returns-else-i-count c =
     let places : List ℕ = c.args.self.now.places.items in
-    let short : length places ≤ c.args.start + c.args.more = omega (arith, c.if-i-count.false, c.saturating_add-i.ensures, c.len-count.ensures, ap length c.as_slice-places.ensures.value) in
+    let short : length places ≤ c.args.start + c.args.more =
+    omega (arith, c.if-i-count.false, c.saturating_add-i.ensures, c.len-count.ensures, ap length c.as_slice-places.ensures.value) in
     sym (ap (λ n. c.args.self.now.at + n) (past places (c.args.start + c.args.more) c.args.self.now.end short))

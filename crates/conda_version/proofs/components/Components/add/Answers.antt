@@ -11,6 +11,8 @@ returns-clause-ok c =
     let span : Span = record { start = c.len-start.result; end = c.len-end.result } in
     let appended : c.append.new.self.items ≡ old.runs.items ++ more = c.in_ok-append.ensures.items in
     let starts : c.len-start.result ≡ length old.runs.items = search rules in
-    let ends : c.len-end.result ≡ length old.runs.items + length more = omega (arith, ap length appended, length-append old.runs.items more, c.len-end.ensures) in
+    let ends : c.len-end.result ≡ length old.runs.items + length more =
+    omega (arith, ap length appended, length-append old.runs.items more, c.len-end.ensures) in
     let pushed = cut_of_push old.runs.items more old.spans.items span c.self.invariant starts ends in
-    ap (λ runs. cut runs c.push.new.self.items) appended ∙ ap (cut (old.runs.items ++ more)) c.in_ok-push.ensures.items ∙ pushed ∙ ap (λ front. front ++ more ∷ []) c.self.view_is
+    ap (λ runs. cut runs c.push.new.self.items) appended ∙ ap (cut (old.runs.items ++ more)) c.in_ok-push.ensures.items ∙ pushed
+    ∙ ap (λ front. front ++ more ∷ []) c.self.view_is
