@@ -4,6 +4,16 @@ use Rattle.std.specs.Option.{ok_or}
 use Rattle.conda_base.specs.Reads.{Read, ◌>>=◌, unless}
 use Rattle.conda_json.specs.Fields.{or_fault}
 
+-- equal answers have equal values
+abbrev pub as_read : (A F : Type 0) → A → Read A F
+as_read A F x = Ok x
+
+pub same : {A F : Type 0} (x y : A) → as_read A F x ≡ as_read A F y → x ≡ y
+same x y e = cc e
+
+pub same_some : {A : Type 0} (x y : A) → Some x ≡ Some y → x ≡ y
+same_some x y e = cc e
+
 -- what is read next is read of a value that was read before
 pub bound : {A B F : Type 0} (r : Read A F) (next : A → Read B F) (y : B) → (r >>= next) ≡ Ok y → (x : A) × (r ≡ Ok x) × (next x ≡ Ok y)
 bound (Ok x) next y e = (x, refl, e)

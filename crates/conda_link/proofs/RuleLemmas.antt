@@ -13,6 +13,7 @@ use Rattle.conda_base.specs.Texts.{cut_first, cut_last, is_text, IsFreeOf}
 use Rattle.conda_version.specs.Text.{trimmed}
 use Rattle.conda_json.specs.Fields.{each_from, optional}
 use Rattle.conda_json.specs.Json.{inner_at, list_at}
+use Rattle.conda_json.specs.Shown.{bound, found, present, same, same_some}
 use Rattle.conda_json.specs.declared.optional.Null.{Null}
 use Rattle.conda_link.specs.Links.{element_entry, entry_of, entry_read, is_command, is_name, listed_entries, made_entry, named_parts, noarch_read, parts_of}
 use Rattle.conda_link.specs.Places.{placed, placed_part}
@@ -25,37 +26,6 @@ LastCut = (mark : ℕ) (text before behind : List ℕ) → (cut_last mark text �
 
 abbrev pub FirstCut : Type 0
 FirstCut = (mark : ℕ) (text before behind : List ℕ) → (cut_first mark text ≡ Some (before, behind)) ↔ ((text ≡ before ++ mark ∷ behind) × IsFreeOf mark before)
-
--- ---- what a Some and an Ok show
-
-abbrev some_or : {A : Type 0} → A → Option A → A
-some_or x (Some y) = y
-some_or x None = x
-
-same_some : {A : Type 0} (x y : A) → Some x ≡ Some y → x ≡ y
-same_some x y e = ap (some_or x) e
-
-abbrev value_or : {A F : Type 0} → A → Read A F → A
-value_or x (Ok y) = y
-value_or x (Err e) = x
-
-abbrev as_read : (A F : Type 0) → A → Read A F
-as_read A F x = Ok x
-
-same : {A F : Type 0} (x y : A) → as_read A F x ≡ as_read A F y → x ≡ y
-same x y e = ap (value_or x) e
-
-found : {A B : Type 0} (o : Option A) (next : A → Option B) (y : B) → option_and_then next o ≡ Some y → (x : A) × (o ≡ Some x) × (next x ≡ Some y)
-found (Some x) next y e = (x, refl, e)
-found None next y e = cc e
-
-bound : {A B F : Type 0} (r : Read A F) (next : A → Read B F) (y : B) → (r >>= next) ≡ Ok y → (x : A) × (r ≡ Ok x) × (next x ≡ Ok y)
-bound (Ok x) next y e = (x, refl, e)
-bound (Err fault) next y e = cc e
-
-present : {A F : Type 0} (o : Option A) (fault : F) (x : A) → ok_or o fault ≡ Ok x → o ≡ Some x
-present (Some y) fault x e = ap Some (same y x e)
-present None fault x e = cc e
 
 -- ---- an entry point
 

@@ -17,10 +17,11 @@ use Rattle.conda_base.specs.Texts.{is_text}
 use Rattle.conda_path.specs.Faults.{path_read}
 use Rattle.conda_path.specs.Paths.{path_fault}
 use Rattle.conda_path.specs.declared.values.Digest.{Digest}
-use Rattle.conda_json.specs.Fields.{optional}
+use Rattle.conda_json.specs.Fields.{optional, or_fault}
+use Rattle.conda_json.specs.Shown.{bound, cleared, guarded, kept, present, refused, same, same_some}
 use Rattle.conda_json.specs.Json.{list_at, number_at, text_at, truth_at}
 use Rattle.conda_json.specs.declared.optional.Null.{Null}
-use Rattle.conda_paths.specs.Listings.{bare_row, digest_read, elements_read, file_read, in_row, is_meta, is_version_one, kind_named, kind_read, kind_row, listing_of, mode_named, mode_read, named_path, new_path, no_link_read, not_empty, or_fault, outside_meta, placeholder_read, row_of_kind, row_path, row_read, rows_read}
+use Rattle.conda_paths.specs.Listings.{bare_row, digest_read, elements_read, file_read, in_row, is_meta, is_version_one, kind_named, kind_read, kind_row, listing_of, mode_named, mode_read, named_path, new_path, no_link_read, not_empty, outside_meta, placeholder_read, row_of_kind, row_path, row_read, rows_read}
 use Rattle.conda_paths.specs.Rules.{AreRows, IsFile, IsListing, IsMode, IsOfKind, IsRow, kind_name}
 use Rattle.conda_paths.specs.declared.error.ListingWhy.{ListingWhy}
 use Rattle.conda_paths.specs.declared.listing.Listing.{Listing}
@@ -28,52 +29,9 @@ use Rattle.conda_paths.specs.declared.row.Placeholder.{Placeholder}
 use Rattle.conda_paths.specs.declared.row.Row.{Row}
 use Rattle.conda_paths.specs.declared.row.RowKind.{RowKind}
 
--- ---- what an Ok shows
-
-abbrev value_or : {A F : Type 0} → A → Read A F → A
-value_or x (Ok y) = y
-value_or x (Err e) = x
-
-abbrev as_read : (A F : Type 0) → A → Read A F
-as_read A F x = Ok x
-
-same : {A F : Type 0} (x y : A) → as_read A F x ≡ as_read A F y → x ≡ y
-same x y e = ap (value_or x) e
-
-abbrev some_or : {A : Type 0} → A → Option A → A
-some_or x (Some y) = y
-some_or x None = x
-
-same_some : {A : Type 0} (x y : A) → Some x ≡ Some y → x ≡ y
-same_some x y e = ap (some_or x) e
-
-bound : {A B F : Type 0} (r : Read A F) (next : A → Read B F) (y : B) → (r >>= next) ≡ Ok y → (x : A) × (r ≡ Ok x) × (next x ≡ Ok y)
-bound (Ok x) next y e = (x, refl, e)
-bound (Err fault) next y e = cc e
-
-present : {A F : Type 0} (o : Option A) (fault : F) (x : A) → ok_or o fault ≡ Ok x → o ≡ Some x
-present (Some y) fault x e = ap Some (same y x e)
-present None fault x e = cc e
-
-cleared : {A Other F : Type 0} (r : Read A Other) (fault : F) (x : A) → or_fault r fault ≡ Ok x → r ≡ Ok x
-cleared (Ok y) fault x e = ap Ok (same y x e)
-cleared (Err other) fault x e = cc e
-
 placed : {A : Type 0} (at : ℕ) (r : Read A ListingWhy) (x : A) → in_row at r ≡ Ok x → r ≡ Ok x
-placed at (Ok y) x e = ap Ok (same y x e)
+placed at (Ok y) x e = cc e
 placed at (Err why) x e = cc e
-
-kept : {A F : Type 0} (fault : Option F) (x y : A) → unless fault x ≡ Ok y → x ≡ y
-kept None x y e = same x y e
-kept (Some f) x y e = cc e
-
-refused : {A F : Type 0} (b : Bool) (fault : F) (x y : A) → (if b then Err fault else Ok x) ≡ Ok y → (b ≡ false) × (x ≡ y)
-refused true fault x y e = cc e
-refused false fault x y e = (refl, same x y e)
-
-guarded : {A F : Type 0} (b : Bool) (r : Read A F) (fault : F) (y : A) → (if b then r else Err fault) ≡ Ok y → (b ≡ true) × (r ≡ Ok y)
-guarded true r fault y e = (refl, e)
-guarded false r fault y e = cc e
 
 same_text : (a b : List ℕ) → Decides (is_text a b) (a ≡ b)
 same_text a b = slice_eq-Decides Decides-eqb a b (is_text a b) refl

@@ -12,7 +12,7 @@ use Rattle.conda_base.specs.Reads.{Read, ◌>>=◌}
 use Rattle.conda_base.specs.Texts.{is_empty, is_text}
 use Rattle.conda_path.specs.declared.values.Digest.{Digest}
 use Rattle.conda_path.specs.Faults.{path_read}
-use Rattle.conda_json.specs.Fields.{optional}
+use Rattle.conda_json.specs.Fields.{optional, or_fault}
 use Rattle.conda_json.specs.Json.{list_at, number_at, object_read, text_at, truth_at}
 use Rattle.conda_json.specs.declared.optional.Null.{Null}
 use Rattle.conda_paths.specs.declared.error.ListingErr.{ListingErr}
@@ -42,11 +42,6 @@ IsGoodFolder listing files = AllByRecursion (IsGoodRow files) listing.rows
 abbrev pub row_fault_of : RowErr → Option ListingWhy
 row_fault_of (RowErr.Bad why) = Some why
 row_fault_of RowErr.Memory = None
-
--- the same value, or this fault in place of another
-abbrev pub or_fault : {A Other Fault : Type 0} → Read A Other → Fault → Read A Fault
-or_fault (Ok x) fault = Ok x
-or_fault (Err other) fault = Err fault
 
 -- a path in `conda-meta`
 abbrev pub is_meta : List ℕ → Bool

@@ -5,10 +5,11 @@ ghost use Rattle.std.specs.Result.{result_map_both};
 ghost use Rattle.serde_json.specs.View.{items_view, view};
 ghost use Rattle.conda_base.specs.Reads.{Gives};
 ghost use Rattle.conda_base.specs.Texts.{is_text};
+ghost use Rattle.conda_json.specs.Fields.{or_fault};
 ghost use Rattle.conda_path.specs.Faults.{path_read};
 ghost use Rattle.conda_paths.specs.Listings as listings;
 ghost use Rattle.conda_paths.specs.Listings.{HasPaths, listing_fault_of, listing_read};
-ghost use Rattle.conda_paths.specs.Listings.{or_fault, row_fault_of};
+ghost use Rattle.conda_paths.specs.Listings.{row_fault_of};
 ghost use Rattle.conda_paths.specs.declared.error.ListingWhy.{ListingWhy};
 
 use crate::error::{ListingErr, ListingWhy};

@@ -1,10 +1,11 @@
 -- The record of a package, as channels of conda have it; the tests and their order are this project's own.
-use Rattle.std.specs.Prelude.{ℕ, Bool, ◌&&◌, ◌||◌, ◌==◌, if◌then◌else◌, List, [], ◌∷◌, codes, Option, None, Some, unwrap_or, Ok, Err}
+use Rattle.std.specs.Prelude.{ℕ, Bool, ◌&&◌, ◌||◌, ◌==◌, if◌then◌else◌, List, [], codes, map, Option, None, Some, unwrap_or, Ok, Err}
 use Rattle.std.specs.Char.{is_ascii_alphanumeric}
 use Rattle.std.specs.List.{list_all, list_any}
 use Rattle.std.specs.Option.{ok_or, option_map_or}
-use Rattle.serde_json.specs.Data.{Data, null, boolean, number, string, array, object, unsigned, Items, no_items, item, Members, no_members, member}
+use Rattle.serde_json.specs.Data.{Data, null, boolean, number, string, array, object, unsigned, Items, Members, no_members, member}
 use Rattle.serde_json.specs.Find.{get, as_str}
+use Rattle.serde_json.specs.View.{items_of}
 use Rattle.conda_base.specs.Reads.{Read, ◌>>=◌}
 use Rattle.conda_base.specs.Signs.{dash, dot, star, underscore}
 use Rattle.conda_base.specs.Texts.{is_byte, is_text}
@@ -22,7 +23,7 @@ use Rattle.conda_json.specs.declared.optional.Null.{Null}
 use Rattle.conda_record.specs.declared.error.RecordErr.{RecordErr}
 use Rattle.conda_record.specs.declared.error.RecordField.{RecordField}
 use Rattle.conda_record.specs.declared.noarch.Noarch.{Noarch}
-use Rattle.conda_record.specs.declared.package.PkgRecord.{PkgRecord}
+use Rattle.conda_record.specs.declared.pkg_record.PkgRecord.{PkgRecord}
 
 -- the field that an error names
 abbrev pub record_fault_of : RecordErr → Option RecordField
@@ -93,10 +94,10 @@ subdir_read subdir value = or_fault (optional text_at Null.Bad (codes "subdir") 
 abbrev pub noarch_said : Data → Noarch
 noarch_said null = Noarch.No
 noarch_said (boolean truth) = if truth then Noarch.Generic else Noarch.No
-noarch_said (number n) = Noarch.Generic
+noarch_said (number _) = Noarch.Generic
 noarch_said (string text) = if is_text text (codes "python") then Noarch.Python else Noarch.Generic
-noarch_said (array elements) = Noarch.Generic
-noarch_said (object members) = Noarch.Generic
+noarch_said (array _) = Noarch.Generic
+noarch_said (object _) = Noarch.Generic
 
 abbrev pub noarch_of : Data → Noarch
 noarch_of value = option_map_or noarch_said (get (codes "noarch") value) Noarch.No
@@ -114,8 +115,8 @@ is_of_parts dist name version build =
 
 -- the record, if its dist is that of its fields
 abbrev pub same_dist : PkgRecord → Read PkgRecord RecordField
-same_dist package =
-    if is_of_parts package.dist package.name package.version package.build then Ok package else Err RecordField.Fn
+same_dist pkg =
+    if is_of_parts pkg.dist pkg.name pkg.version pkg.build then Ok pkg else Err RecordField.Fn
 
 -- the record that a value means, which stands for a file in the subdir of a channel
 abbrev pub record_read : Data → List ℕ → List ℕ → List ℕ → Read PkgRecord RecordField
@@ -128,7 +129,20 @@ record_read value file channel subdir = do
   depends ← depends_read value
   constrains ← constrains_read value
   place ← subdir_read subdir value
-  same_dist (record { name = name; version = version; build = build; build_number = build_number; channel = channel; subdir = place; dist = dist; depends = depends; constrains = constrains; noarch = noarch_of value; timestamp = timestamp_of value })
+  same_dist
+      (record {
+        name = name;
+        version = version;
+        build = build;
+        build_number = build_number;
+        channel = channel;
+        subdir = place;
+        dist = dist;
+        depends = depends;
+        constrains = constrains;
+        noarch = noarch_of value;
+        timestamp = timestamp_of value;
+      })
 
 -- ---- the object that stands for a record
 
@@ -136,8 +150,7 @@ abbrev pub spec_data : Parts → Data
 spec_data parts = string (spec_text parts)
 
 abbrev pub specs_data : List Parts → Items
-specs_data [] = no_items
-specs_data (parts ∷ rest) = item (spec_data parts) (specs_data rest)
+specs_data specs = items_of (map spec_data specs)
 
 -- the member `noarch`, which says nothing of a package of one platform, in front of others
 abbrev pub noarch_member : Noarch → Members → Members
@@ -147,22 +160,22 @@ noarch_member Noarch.Python rest = member (codes "noarch") (string (codes "pytho
 
 -- the members of a record's object, with this said of `noarch`
 abbrev pub record_members : Noarch → PkgRecord → Members
-record_members noarch package =
-    member (codes "build") (string package.build)
-    (member (codes "build_number") (number (unsigned package.build_number))
-    (member (codes "channel") (string package.channel)
-    (member (codes "constrains") (array (specs_data package.constrains))
-    (member (codes "depends") (array (specs_data package.depends))
-    (member (codes "dist") (string package.dist)
-    (member (codes "name") (string package.name)
+record_members noarch pkg =
+    member (codes "build") (string pkg.build)
+    (member (codes "build_number") (number (unsigned pkg.build_number))
+    (member (codes "channel") (string pkg.channel)
+    (member (codes "constrains") (array (specs_data pkg.constrains))
+    (member (codes "depends") (array (specs_data pkg.depends))
+    (member (codes "dist") (string pkg.dist)
+    (member (codes "name") (string pkg.name)
     (noarch_member noarch
-    (member (codes "subdir") (string package.subdir)
-    (member (codes "timestamp") (number (unsigned package.timestamp))
-    (member (codes "version") (string package.version) no_members))))))))))
+    (member (codes "subdir") (string pkg.subdir)
+    (member (codes "timestamp") (number (unsigned pkg.timestamp))
+    (member (codes "version") (string pkg.version) no_members))))))))))
 
 abbrev pub record_data : PkgRecord → Data
-record_data package = object (record_members package.noarch package)
+record_data pkg = object (record_members pkg.noarch pkg)
 
 -- the package's key in the cache
 abbrev pub key_of : PkgRecord → SlotKey
-key_of package = record { channel = package.channel; subdir = package.subdir; dist = package.dist }
+key_of pkg = record { channel = pkg.channel; subdir = pkg.subdir; dist = pkg.dist }

@@ -17,7 +17,7 @@ use Rattle.conda_json.specs.Fields.{optional}
 use Rattle.conda_json.specs.Json.{list_at, number_at, text_at}
 use Rattle.conda_json.specs.declared.optional.Null.{Null}
 use Rattle.conda_record.specs.Records.{is_package_byte, noarch_of, timestamp_of}
-use Rattle.conda_record.specs.declared.package.PkgRecord.{PkgRecord}
+use Rattle.conda_record.specs.declared.pkg_record.PkgRecord.{PkgRecord}
 
 -- ---- a record alone
 
@@ -27,15 +27,15 @@ HasNoGlob parts = IsFreeOf star parts.name
 
 -- The name is letters, digits, `_`, `-` and `.`; the version is one, without spaces at its ends; the dist is a dist, and that of name,
 -- version and build; and no specification has a star in its name.
-pub record IsWellFormed (package : PkgRecord) : Type 0 where
+pub record IsWellFormed (pkg : PkgRecord) : Type 0 where
   pub meaning : Meaning
-  pub name : list_all is_package_byte package.name ≡ true
-  pub version : IsVersionText package.version meaning
-  pub bare : trimmed package.version ≡ package.version
-  pub dist : IsDist package.dist
-  pub parts : IsSplit package.dist package.name package.version package.build
-  pub depends : AllByRecursion HasNoGlob package.depends
-  pub constrains : AllByRecursion HasNoGlob package.constrains
+  pub name : list_all is_package_byte pkg.name ≡ true
+  pub version : IsVersionText pkg.version meaning
+  pub bare : trimmed pkg.version ≡ pkg.version
+  pub dist : IsDist pkg.dist
+  pub parts : IsSplit pkg.dist pkg.name pkg.version pkg.build
+  pub depends : AllByRecursion HasNoGlob pkg.depends
+  pub constrains : AllByRecursion HasNoGlob pkg.constrains
 
 -- the specification is read from its normal form
 abbrev pub ReadsBack : Parts → Type 0
@@ -64,26 +64,30 @@ MayWriteSpecs value name specs =
     ((optional list_at Null.Bad name value ≡ Ok None) × (specs ≡ []))
     ⊎ ((elements : Items) × (optional list_at Null.Bad name value ≡ Ok (Some elements)) × WriteSpecs elements specs)
 
+-- the field, if it is there, is this text
+abbrev pub MayName : Data → List ℕ → List ℕ → Type 0
+MayName value name text = (optional text_at Null.Bad name value ≡ Ok None) ⊎ (optional text_at Null.Bad name value ≡ Ok (Some text))
+
 -- The value is this record of a file in the subdir of a channel.
-pub record IsRecord (value : Data) (file channel subdir : List ℕ) (package : PkgRecord) : Type 0 where
+pub record IsRecord (value : Data) (file channel subdir : List ℕ) (pkg : PkgRecord) : Type 0 where
   pub written : List ℕ
   pub meaning : Meaning
   pub elements : Items
-  pub file : NamesDist file package.dist
-  pub dist : IsDist package.dist
-  pub parts : IsSplit package.dist package.name package.version package.build
-  pub name : text_at value (codes "name") ≡ Some package.name
-  pub name_bytes : list_all is_package_byte package.name ≡ true
+  pub file_is : NamesDist file pkg.dist
+  pub dist : IsDist pkg.dist
+  pub parts : IsSplit pkg.dist pkg.name pkg.version pkg.build
+  pub name : text_at value (codes "name") ≡ Some pkg.name
+  pub name_bytes : list_all is_package_byte pkg.name ≡ true
   pub version : text_at value (codes "version") ≡ Some written
-  pub version_text : package.version ≡ trimmed written
-  pub is_version : IsVersionText package.version meaning
-  pub build : text_at value (codes "build") ≡ Some package.build
-  pub build_number : number_at value (codes "build_number") ≡ Some package.build_number
+  pub version_text : pkg.version ≡ trimmed written
+  pub is_version : IsVersionText pkg.version meaning
+  pub build : text_at value (codes "build") ≡ Some pkg.build
+  pub build_number : number_at value (codes "build_number") ≡ Some pkg.build_number
   pub depends : list_at value (codes "depends") ≡ Some elements
-  pub needs : WriteSpecs elements package.depends
-  pub constrains : MayWriteSpecs value (codes "constrains") package.constrains
-  pub subdir : (optional text_at Null.Bad (codes "subdir") value ≡ Ok None) ⊎ (optional text_at Null.Bad (codes "subdir") value ≡ Ok (Some subdir))
-  pub in_subdir : package.subdir ≡ subdir
-  pub in_channel : package.channel ≡ channel
-  pub noarch : package.noarch ≡ noarch_of value
-  pub timestamp : package.timestamp ≡ timestamp_of value
+  pub needs : WriteSpecs elements pkg.depends
+  pub constrains : MayWriteSpecs value (codes "constrains") pkg.constrains
+  pub subdir_is : MayName value (codes "subdir") subdir
+  pub in_subdir : pkg.subdir ≡ subdir
+  pub in_channel : pkg.channel ≡ channel
+  pub noarch : pkg.noarch ≡ noarch_of value
+  pub timestamp : pkg.timestamp ≡ timestamp_of value

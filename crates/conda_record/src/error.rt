@@ -4,7 +4,8 @@ use conda_base::Copied;
 use std::alloc::AllocError;
 use thiserror::Error;
 
-/// A field of a record, in the order of the tests but for `fn`, which names both the first and the last of them.
+/// A field of a record, in the order of the tests but for `fn`, which names both the first and the
+/// last of them.
 #[derive(Clone, Copy, Debug, PartialEq, Eq, Error)]
 pub enum RecordField {
     /// No text of letters, digits, `_`, `-` and `.`.

@@ -13,7 +13,8 @@ pub enum Noarch {
     No,
     /// It fits every platform.
     Generic,
-    /// It fits every platform, and its Python code goes where the environment's Python looks for it.
+    /// It fits every platform, and its Python code goes where the environment's Python looks for
+    /// it.
     Python,
 }
 

@@ -1,4 +1,4 @@
-use crate::package::PkgRecord;
+use crate::pkg_record::PkgRecord;
 use conda_base::{Copied, Rows, Text};
 use std::alloc::AllocError;
 

@@ -8,21 +8,23 @@ use crate::fields::{
     name_field, subdir_field, timestamp_of, version_field,
 };
 use crate::noarch::noarch_of;
-use crate::package::PkgRecord;
+use crate::pkg_record::PkgRecord;
 use conda_base::Text;
 use serde_json::Value;
 use std::alloc::Global;
 
 impl PkgRecord {
-    /// Reads the record of a package file in the subdir of a channel. The file's name is a dist, with the ending of a
-    /// package file (`.tar.bz2` or `.conda`) or without it.
+    /// Reads the record of a package file in the subdir of a channel. The file's name is a dist,
+    /// with the ending of a package file (`.tar.bz2` or `.conda`) or without it.
     ///
-    /// The record is an object with `name`, `version`, `build`, `build_number` and `depends`, and optionally
-    /// `constrains`, `subdir`, `noarch` and `timestamp`; other fields are passed over. Its name, version and build are
-    /// those of the dist. Of a value that is no object each field is absent.
+    /// The record is an object with `name`, `version`, `build`, `build_number` and `depends`, and
+    /// optionally `constrains`, `subdir`, `noarch` and `timestamp`; other fields are passed over.
+    /// Its name, version and build are those of the dist. Of a value that is no object each field
+    /// is absent.
     ///
-    /// `BadRecord` has `fn` where the file's name is no dist, then the first field in this order that is absent or of
-    /// another form, then `fn` where the dist is another one's. The timestamp stays as it is given.
+    /// `BadRecord` has `fn` where the file's name is no dist, then the first field in this order
+    /// that is absent or of another form, then `fn` where the dist is another one's. The timestamp
+    /// stays as it is given.
     pub fn read(
         alloc: Global,
         value: &Value,

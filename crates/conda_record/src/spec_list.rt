@@ -29,6 +29,7 @@ fn plain_spec(alloc: Global, field: RecordField, element: &Value) -> Result<Spec
     Ok(spec)
 }
 
+#[tactic(auto, using(crate::proofs::LoopLemmas::one_more, crate::proofs::LoopLemmas::ended))]
 /// The specifications of the field's list, in its order.
 pub fn read_specs(
     alloc: Global,

@@ -1,16 +1,17 @@
 ghost use Rattle.std.specs.Prelude.{◌≡◌, IfOk, Err, OnErr, OnOk, Ok};
+ghost use Rattle.std.specs.List.{AllByRecursion};
 ghost use Rattle.serde_json.specs.Data.{put as with_member, string};
 ghost use Rattle.serde_json.specs.View.{items_view, members_view, view};
 ghost use Rattle.conda_record.specs.Records as records;
 ghost use Rattle.conda_record.specs.Records.{key_of, record_data, record_members, record_read};
 ghost use Rattle.conda_record.specs.Records.{specs_data};
-ghost use Rattle.conda_record.specs.Rules.{IsWellFormed};
+ghost use Rattle.conda_record.specs.Rules.{IsWellFormed, ReadsBack};
 ghost use Rattle.conda_record.specs.declared.error.RecordErr.{RecordErr};
 
 use crate::error::RecordErr;
 use crate::laws::record_laws;
 use crate::noarch::Noarch;
-use crate::package::PkgRecord;
+use crate::pkg_record::PkgRecord;
 use conda_base::{Copied, Text};
 use conda_path::SlotKey;
 use conda_spec::Spec;
@@ -19,7 +20,8 @@ use std::alloc::{AllocError, Global};
 
 /// The normal form of a specification.
 fn spec_value(alloc: Global, spec: &Spec) -> Result<Value, AllocError>
-    ensures { IfOk result (λ value. view value ≡ records.spec_data spec.now) }
+    ensures value { IfOk result (λ value. view value ≡ records.spec_data spec.now) }
+    ensures again { OnOk result (ReadsBack spec.now) }
 {
     match spec.text(alloc) {
         Ok(text) => Ok(Value::String(text)),
@@ -29,7 +31,8 @@ fn spec_value(alloc: Global, spec: &Spec) -> Result<Value, AllocError>
 
 /// The normal forms of specifications, in their order.
 fn specs_value(alloc: Global, specs: &[Spec]) -> Result<Vec<Value>, AllocError>
-    ensures { IfOk result (λ list. items_view list.items ≡ specs_data specs.now) }
+    ensures list { IfOk result (λ list. items_view list.items ≡ specs_data specs.now) }
+    ensures again { OnOk result (AllByRecursion ReadsBack specs.now) }
 {
     let mut list = Vec::with_capacity(alloc, specs.len())?;
     for spec in specs {
@@ -57,8 +60,10 @@ fn put_text(
 impl PkgRecord {
     /// The members of the record's object but for `noarch`.
     fn plain_members(&self, alloc: Global) -> Result<Members, AllocError>
-        ensures { IfOk result (λ made. members_view made.entries
+        ensures members { IfOk result (λ made. members_view made.entries
             ≡ record_members Noarch.No self.now) }
+        ensures depends { OnOk result (AllByRecursion ReadsBack self.now.depends) }
+        ensures constrains { OnOk result (AllByRecursion ReadsBack self.now.constrains) }
     {
         let constrains = specs_value(alloc, self.constrains.as_slice())?;
         let depends = specs_value(alloc, self.depends.as_slice())?;
@@ -77,7 +82,9 @@ impl PkgRecord {
     }
 
     fn object(&self, alloc: Global) -> Result<Value, AllocError>
-        ensures { IfOk result (λ value. view value ≡ record_data self.now) }
+        ensures value { IfOk result (λ value. view value ≡ record_data self.now) }
+        ensures depends { OnOk result (AllByRecursion ReadsBack self.now.depends) }
+        ensures constrains { OnOk result (AllByRecursion ReadsBack self.now.constrains) }
     {
         let mut made = self.plain_members(alloc)?;
         match self.noarch {
@@ -93,13 +100,14 @@ impl PkgRecord {
         }
     }
 
-    /// The object that stands for the record in the files of an environment: its fields by their names, in the order
-    /// of these, with the specifications in normal form and `noarch` only where it is `generic` or `python`. Its only
-    /// error is `Memory`.
+    /// The object that stands for the record in the files of an environment: its fields by their
+    /// names, in the order of these, with the specifications in normal form and `noarch` only where
+    /// it is `generic` or `python`. Its only error is `Memory`.
     pub fn value(&self, alloc: Global) -> Result<Value, RecordErr>
         ensures value { IfOk result (λ value. view value ≡ record_data self.now) }
 
-        // A well-formed record, as each is that was read, is read again from it, with its dist as the file's name.
+        // A well-formed record, as each is that was read, is read again from it, with its dist as
+        // the file's name.
         ensures reads_back { IsWellFormed self.now → IfOk result (λ value.
             record_read (view value) self.now.dist self.now.channel self.now.subdir
             ≡ Ok self.now) }

@@ -25,7 +25,8 @@ pub struct PkgRecord {
     /// What a package of such a name has to be, if it is there.
     pub constrains: Rows<Spec>,
     pub noarch: Noarch,
-    /// When the package was built: milliseconds since 1970 where the channel gives them, and 0 where it says nothing.
+    /// When the package was built: milliseconds since 1970 where the channel gives them, and 0
+    /// where it says nothing.
     pub timestamp: u64,
 }
 
