@@ -1,13 +1,12 @@
--- Lists put in order, the first of equal elements kept.
-use Rattle.std.specs.Prelude.{List, [], ◌∷◌}
-use Rattle.std.specs.BTreeSet.{insert_key}
+-- Lists put in the order of keys.
+use Rattle.std.specs.Prelude.{List, map}
+use Rattle.std.specs.FinMap.{from_entries, values}
 use Rattle.std.specs.declared.cmp.Ordering.{Ordering}
 
--- an ascending list with elements put in, each at its place unless an equal one is there
-abbrev pub with_all : {X : Type 0} → (X → X → Ordering) → List X → List X → List X
-with_all cmp set [] = set
-with_all cmp set (x ∷ xs) = with_all cmp (insert_key cmp set x) xs
+-- each element under its key
+abbrev pub keyed : {K X : Type 0} → (X → K) → List X → List (K × X)
+keyed key xs = map (λ x. (key x, x)) xs
 
--- the elements ascending; of equal ones the first alone
-abbrev pub ascending : {X : Type 0} → (X → X → Ordering) → List X → List X
-ascending cmp xs = with_all cmp [] xs
+-- the elements in the order of their keys; of several with one key the first alone
+abbrev pub ascending : {K X : Type 0} → (K → K → Ordering) → (X → K) → List X → List X
+ascending R key xs = values (from_entries {R = R} (keyed key xs))

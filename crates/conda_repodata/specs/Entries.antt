@@ -9,7 +9,7 @@ use Rattle.conda_base.specs.Reads.{Read, ◌>>=◌}
 use Rattle.conda_path.specs.Files.{cut_ending}
 use Rattle.conda_record.specs.Records.{record_read}
 use Rattle.conda_record.specs.declared.error.RecordField.{RecordField}
-use Rattle.conda_record.specs.declared.package.PkgRecord.{PkgRecord}
+use Rattle.conda_record.specs.declared.pkg_record.PkgRecord.{PkgRecord}
 use Rattle.conda_repodata.specs.declared.aside.Aside.{Aside}
 use Rattle.conda_repodata.specs.declared.aside.Section.{Section}
 use Rattle.conda_repodata.specs.declared.aside.Unread.{Unread}
@@ -27,12 +27,12 @@ in_milliseconds timestamp = if nat_le timestamp 253402300799 then timestamp * 10
 
 -- the record with its timestamp in milliseconds
 abbrev pub dated : PkgRecord → PkgRecord
-dated package = record package { timestamp = in_milliseconds package.timestamp }
+dated pkg = record pkg { timestamp = in_milliseconds pkg.timestamp }
 
 -- the record that the entry of a package file is, or the first field that is bad
 abbrev pub entry_read : List ℕ → List ℕ → List ℕ → Data → Read PkgRecord RecordField
 entry_read channel subdir file value =
-    if is_some (cut_ending file) then record_read value file channel subdir >>= (λ package. Ok (dated package)) else Err RecordField.Fn
+    if is_some (cut_ending file) then record_read value file channel subdir >>= (λ pkg. Ok (dated pkg)) else Err RecordField.Fn
 
 -- ---- their orders
 
@@ -42,9 +42,9 @@ abbrev pub rank : Section → List ℕ → ℕ
 rank Section.PackagesConda file = if ends_with nat_eq file (codes ".conda") then 0 else 1
 rank Section.Packages file = if ends_with nat_eq file (codes ".conda") then 2 else 3
 
--- records by their dists
-abbrev pub dist_cmp : PkgRecord → PkgRecord → Ordering
-dist_cmp a b = slice_cmp nat_cmp a.dist b.dist
+-- the dist of a record
+abbrev pub dist_of : PkgRecord → List ℕ
+dist_of pkg = pkg.dist
 
 -- `packages` before `packages.conda`
 abbrev pub section_cmp : Section → Section → Ordering
@@ -53,9 +53,13 @@ section_cmp Section.Packages Section.PackagesConda = Ordering.Less
 section_cmp Section.PackagesConda Section.Packages = Ordering.Greater
 section_cmp Section.PackagesConda Section.PackagesConda = Ordering.Equal
 
--- entries by the names of their files, and those of one name by their objects
-abbrev pub file_cmp : Unread → Unread → Ordering
-file_cmp a b = ordering_then (slice_cmp nat_cmp a.file b.file) (section_cmp a.section b.section)
+-- the place of an entry that is set aside: the name of its file, and its object
+abbrev pub place_of : Unread → List ℕ × Section
+place_of unread = (unread.file, unread.section)
+
+-- by the names of the files, and where two are equal by the objects
+abbrev pub place_cmp : List ℕ × Section → List ℕ × Section → Ordering
+place_cmp a b = ordering_then (slice_cmp nat_cmp a.0 b.0) (section_cmp a.1 b.1)
 
 -- what is said of an entry that is set aside
 abbrev pub aside_of : Unread → Aside

@@ -1,15 +1,17 @@
 -- The reader as a function: the entries of `packages.conda`, then those of `packages`, in the order of their files. So of the entries of one dist
 -- that are read the first is the one to be taken.
 use Rattle.std.specs.Prelude.{ℕ, List, [], ◌∷◌, ◌++◌, map, Option, None, Some, unwrap_or, Ok, Err}
+use Rattle.std.specs.Ordering.{nat_cmp}
+use Rattle.std.specs.Cmp.Lexicographic.{slice_cmp}
 use Rattle.serde_json.specs.Data.{Data, Members, no_members, member}
 use Rattle.conda_base.specs.Reads.{Read, ◌>>=◌}
 use Rattle.conda_json.specs.Fields.{optional, or_fault}
 use Rattle.conda_json.specs.Json.{object_at, object_read}
 use Rattle.conda_json.specs.declared.optional.Null.{Null}
 use Rattle.conda_record.specs.declared.error.RecordField.{RecordField}
-use Rattle.conda_record.specs.declared.package.PkgRecord.{PkgRecord}
+use Rattle.conda_record.specs.declared.pkg_record.PkgRecord.{PkgRecord}
 use Rattle.conda_repodata.specs.Ascending.{ascending}
-use Rattle.conda_repodata.specs.Entries.{aside_of, dist_cmp, entry_read, file_cmp, section_name}
+use Rattle.conda_repodata.specs.Entries.{aside_of, dist_of, entry_read, place_cmp, place_of, section_name}
 use Rattle.conda_repodata.specs.declared.aside.Section.{Section}
 use Rattle.conda_repodata.specs.declared.aside.Unread.{Unread}
 use Rattle.conda_repodata.specs.declared.error.RepodataErr.{RepodataErr}
@@ -33,7 +35,7 @@ section_read text section =
 
 -- a record, in front of others, where an entry is one
 abbrev pub if_read : Read PkgRecord RecordField → List PkgRecord → List PkgRecord
-if_read (Ok package) rest = package ∷ rest
+if_read (Ok pkg) rest = pkg ∷ rest
 if_read (Err field) rest = rest
 
 -- the records of an object's entries
@@ -43,7 +45,7 @@ records_of channel subdir (member file value rest) = if_read (entry_read channel
 
 -- an entry, in front of others, where it is none
 abbrev pub if_unread : Section → List ℕ → Read PkgRecord RecordField → List Unread → List Unread
-if_unread section file (Ok package) rest = rest
+if_unread section file (Ok pkg) rest = rest
 if_unread section file (Err field) rest = record { file = file; section = section; field = field } ∷ rest
 
 -- those of an object's entries that are none
@@ -55,8 +57,8 @@ unread_of section channel subdir (member file value rest) =
 -- what the members of the two objects mean
 abbrev pub repodata_with : List ℕ → List ℕ → Members → Members → Repodata
 repodata_with channel subdir packages conda = record {
-  recs = ascending dist_cmp (records_of channel subdir conda ++ records_of channel subdir packages);
-  aside = map aside_of (ascending file_cmp (unread_of Section.PackagesConda channel subdir conda ++ unread_of Section.Packages channel subdir packages));
+  recs = ascending (slice_cmp nat_cmp) dist_of (records_of channel subdir conda ++ records_of channel subdir packages);
+  aside = map aside_of (ascending place_cmp place_of (unread_of Section.PackagesConda channel subdir conda ++ unread_of Section.Packages channel subdir packages));
 }
 
 -- what an object means for the subdir of a channel

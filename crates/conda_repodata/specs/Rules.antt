@@ -2,13 +2,15 @@
 use Rattle.std.specs.Prelude.{◌≡◌, ◌↔◌, ◌≤◌, ℕ, List, map, codes, Some, Ok, Err, IsOk, option_and_then}
 use Rattle.std.specs.List.{Contains}
 use Rattle.std.specs.List.Sorted.{IsStrictlySortedBy}
+use Rattle.std.specs.Ordering.{nat_cmp}
+use Rattle.std.specs.Cmp.Lexicographic.{slice_cmp}
 use Rattle.serde_json.specs.Data.{Data}
 use Rattle.serde_json.specs.Find.{get}
 use Rattle.conda_json.specs.Fields.{optional}
 use Rattle.conda_json.specs.Json.{object_at}
 use Rattle.conda_json.specs.declared.optional.Null.{Null}
-use Rattle.conda_record.specs.declared.package.PkgRecord.{PkgRecord}
-use Rattle.conda_repodata.specs.Entries.{aside_of, dist_cmp, entry_read, file_cmp, rank, section_name}
+use Rattle.conda_record.specs.declared.pkg_record.PkgRecord.{PkgRecord}
+use Rattle.conda_repodata.specs.Entries.{aside_of, dist_of, entry_read, place_cmp, place_of, rank, section_name}
 use Rattle.conda_repodata.specs.declared.aside.Section.{Section}
 use Rattle.conda_repodata.specs.declared.aside.Unread.{Unread}
 use Rattle.conda_repodata.specs.declared.repodata.Repodata.{Repodata}
@@ -23,13 +25,13 @@ pub record Entry : Type 0 where
 abbrev pub IsEntry : Data → Entry → Type 0
 IsEntry text entry = option_and_then (get entry.file) (get (section_name entry.section) text) ≡ Some entry.value
 
--- the package is what an entry says, and no entry of its dist that says what a package is comes before that one
-pub record IsTaken (text : Data) (channel subdir : List ℕ) (package : PkgRecord) : Type 0 where
+-- an entry is read as this record, and none of its dist that is read as one comes before that entry
+pub record IsTaken (text : Data) (channel subdir : List ℕ) (pkg : PkgRecord) : Type 0 where
   pub entry : Entry
   pub stands : IsEntry text entry
-  pub reads : entry_read channel subdir entry.file entry.value ≡ Ok package
+  pub reads : entry_read channel subdir entry.file entry.value ≡ Ok pkg
   pub first : (other : Entry) (found : PkgRecord) → IsEntry text other → entry_read channel subdir other.file other.value ≡ Ok found
-      → found.dist ≡ package.dist → rank entry.section entry.file ≤ rank other.section other.file
+      → found.dist ≡ pkg.dist → rank entry.section entry.file ≤ rank other.section other.file
 
 -- it is an entry that is no record, for the first field that is bad
 abbrev pub IsUnread : Data → List ℕ → List ℕ → Unread → Type 0
@@ -43,8 +45,8 @@ pub record IsRepodata (text : Data) (channel subdir : List ℕ) (repodata : Repo
   pub unread : List Unread
   pub packages : IsOk (optional object_at Null.Bad (codes "packages") text)
   pub packages_conda : IsOk (optional object_at Null.Bad (codes "packages.conda") text)
-  pub taken : (package : PkgRecord) → Contains repodata.recs package ↔ IsTaken text channel subdir package
-  pub by_dist : IsStrictlySortedBy dist_cmp repodata.recs
+  pub taken : (pkg : PkgRecord) → Contains repodata.recs pkg ↔ IsTaken text channel subdir pkg
+  pub by_dist : IsStrictlySortedBy (slice_cmp nat_cmp) (map dist_of repodata.recs)
   pub set_aside : (entry : Unread) → Contains unread entry ↔ IsUnread text channel subdir entry
-  pub by_file : IsStrictlySortedBy file_cmp unread
+  pub by_file : IsStrictlySortedBy place_cmp (map place_of unread)
   pub shown : repodata.aside ≡ map aside_of unread

@@ -38,7 +38,7 @@ pub fn read_entry(
             field: RecordField::Fn,
         });
     }
-    let mut package = PkgRecord::read(alloc, value, file, channel, subdir)?;
-    package.timestamp = in_milliseconds(package.timestamp);
-    Ok(package)
+    let mut pkg = PkgRecord::read(alloc, value, file, channel, subdir)?;
+    pkg.timestamp = in_milliseconds(pkg.timestamp);
+    Ok(pkg)
 }

@@ -1,7 +1,8 @@
 ghost use Rattle.std.specs.Prelude.{◌≡◌, IfOk, OnOk, map};
+ghost use Rattle.std.specs.Cmp.Lexicographic.{slice_cmp};
+ghost use Rattle.std.specs.Ordering.{nat_cmp};
 ghost use Rattle.conda_repodata.specs.Ascending.{ascending};
-ghost use Rattle.conda_repodata.specs.Entries as entries;
-ghost use Rattle.conda_repodata.specs.Entries.{aside_of, dist_cmp, file_cmp};
+ghost use Rattle.conda_repodata.specs.Entries.{aside_of, dist_of, place_cmp, place_of};
 
 use crate::aside::{Aside, Unread};
 use conda_base::Rows;
@@ -11,11 +12,12 @@ use std::cmp::Ordering;
 
 /// Puts records in the order of their dists; of several of one dist the first stays.
 pub fn put_by_dist(records: &mut Vec<PkgRecord>) -> Result<(), AllocError>
-    ensures { OnOk result (records.new.items ≡ ascending dist_cmp records.old.items) }
+    ensures { OnOk result (records.new.items
+        ≡ ascending (slice_cmp nat_cmp) dist_of records.old.items) }
 {
     records.sort_by(
         |first: &PkgRecord, second: &PkgRecord| -> Ordering
-            ensures { result ≡ dist_cmp first.now second.now }
+            ensures { result ≡ slice_cmp nat_cmp first.now.dist second.now.dist }
         { first.dist.cmp(&second.dist) },
     )?;
     records.dedup_by(|next: &mut PkgRecord, kept: &mut PkgRecord| next.dist == kept.dist);
@@ -24,7 +26,7 @@ pub fn put_by_dist(records: &mut Vec<PkgRecord>) -> Result<(), AllocError>
 
 /// By the name of the file, then by the object.
 fn compare(first: &Unread, second: &Unread) -> Ordering
-    ensures { result ≡ file_cmp first.now second.now }
+    ensures { result ≡ place_cmp (place_of first.now) (place_of second.now) }
 {
     first
         .file
@@ -34,11 +36,12 @@ fn compare(first: &Unread, second: &Unread) -> Ordering
 
 /// Puts entries that are set aside in the order of their files.
 pub fn put_by_file(unread: &mut Vec<Unread>) -> Result<(), AllocError>
-    ensures { OnOk result (unread.new.items ≡ ascending file_cmp unread.old.items) }
+    ensures { OnOk result (unread.new.items
+        ≡ ascending place_cmp place_of unread.old.items) }
 {
     unread.sort_by(
         |first: &Unread, second: &Unread| -> Ordering
-            ensures { result ≡ file_cmp first.now second.now }
+            ensures { result ≡ place_cmp (place_of first.now) (place_of second.now) }
         { compare(first, second) },
     )?;
     unread.dedup_by(|next: &mut Unread, kept: &mut Unread| compare(next, kept).is_eq());

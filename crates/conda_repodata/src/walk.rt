@@ -44,7 +44,7 @@ impl Found {
     {
         for (file, value) in members {
             match read_entry(alloc, file.as_str(), value, channel, subdir) {
-                Ok(package) => self.records.push(package)?,
+                Ok(pkg) => self.records.push(pkg)?,
                 Err(RecordErr::BadRecord { field }) => {
                     let file = Text::from_str(alloc, file.as_str())?;
                     self.unread.push(Unread {
