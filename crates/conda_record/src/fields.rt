@@ -1,5 +1,6 @@
-ghost use Rattle.std.specs.Prelude.{◌≡◌, MatchResult, Ok, Err};
+ghost use Rattle.std.specs.Prelude.{◌≡◌};
 ghost use Rattle.std.specs.List.{list_all};
+ghost use Rattle.std.specs.Result.{result_map_both};
 ghost use Rattle.serde_json.specs.View.{view};
 ghost use Rattle.conda_base.specs.Reads.{Gives};
 ghost use Rattle.conda_record.specs.Records as records;
@@ -47,8 +48,8 @@ fn are_package_bytes(text: &[u8]) -> bool
 
 /// The package's name, which may be empty.
 pub fn name_field(value: &Value) -> Result<&str, RecordErr>
-    ensures { MatchResult result (λ name. records.name_read (view value.now) ≡ Ok name.now)
-        (λ e. Gives record_fault_of (Err e) (records.name_read (view value.now))) }
+    ensures { Gives record_fault_of (result_map_both (λ name. name.now) (λ e. e) result)
+        (records.name_read (view value.now)) }
 {
     match text_of(value, "name") {
         Ok(name) if are_package_bytes(name.as_bytes()) => Ok(name),
@@ -77,8 +78,8 @@ pub fn version_field(alloc: Global, value: &Value) -> Result<Version, RecordErr>
 }
 
 pub fn build_field(value: &Value) -> Result<&str, RecordErr>
-    ensures { MatchResult result (λ build. records.build_read (view value.now) ≡ Ok build.now)
-        (λ e. Gives record_fault_of (Err e) (records.build_read (view value.now))) }
+    ensures { Gives record_fault_of (result_map_both (λ build. build.now) (λ e. e) result)
+        (records.build_read (view value.now)) }
 {
     match text_of(value, "build") {
         Ok(build) => Ok(build),

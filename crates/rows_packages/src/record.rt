@@ -23,8 +23,8 @@ pub fn answer(alloc: Global, call: &str, arguments: &[Text]) -> Result<Option<St
         ("record", Ok(package)) => Ok(Some(shown(alloc, &package)?)),
         ("object", Ok(package)) => Ok(Some(object(alloc, &package)?)),
         ("key", Ok(package)) => Ok(Some(key(alloc, &package)?)),
-        (_, Err(RecordErr::BadRecord { field })) => Ok(Some(format!(in alloc; "bad {field}")?)),
         (_, Err(RecordErr::Memory)) => Err(AllocError),
+        (_, Err(error)) => Ok(Some(format!(in alloc; "{error}")?)),
         _ => Ok(None),
     }
 }
