@@ -61,6 +61,11 @@ repeated : {A : Type 0} (b : Bool) (x y z : A) → cond b x z ≡ cond b x (cond
 repeated true x y z = refl
 repeated false x y z = refl
 
+-- the element is one of the list
+abbrev pub IsIn : {X : Type 0} → X → List X → Type 0
+IsIn x [] = ⊥
+IsIn x (y ∷ ys) = (x ≡ y) ⊎ IsIn x ys
+
 module _ {K X : Type 0} {R : K → K → Ordering} (o : IsTotalOrder R) (key : X → K) where
   -- the first element whose key ties with this one
   abbrev pub at : K → List X → Option X
@@ -140,11 +145,6 @@ module _ {K X : Type 0} {R : K → K → Ordering} (o : IsTotalOrder R) (key : X
     first_kept q = ap (find R q) as_entries ∙ sym (get-entries (from_entries {R = R} (keyed key xs)) q) ∙ get-from_entries o (keyed key xs) q
 
   -- ---- elements
-
-  -- the element is one of the list
-  abbrev pub IsIn : X → List X → Type 0
-  IsIn x [] = ⊥
-  IsIn x (y ∷ ys) = (x ≡ y) ⊎ IsIn x ys
 
   at_in : (q : K) (xs : List X) (x : X) → at q xs ≡ Some x → IsIn x xs × (R q (key x) ≡ Equal)
   at_in q [] x e = cc e
