@@ -1,5 +1,5 @@
 -- A record alone: each that is read is well-formed, and is read again from its object.
-use Rattle.std.specs.Prelude.{◌≡◌, ℕ, List, [], ◌∷◌, codes, None, Some, Ok}
+use Rattle.std.specs.Prelude.{◌≡◌, ℕ, List, [], ◌∷◌, codes, Some, Ok}
 use Rattle.std.proofs.Common.{inl, inr, refl, ap, sym, ◌∙◌, subst}
 use Rattle.std.specs.List.{AllByRecursion}
 use Rattle.serde_json.specs.Data.{Data, Items, no_items, item, object}
@@ -9,8 +9,8 @@ use Rattle.conda_spec.specs.Text.{spec_text}
 use Rattle.conda_json.specs.Fields.{optional}
 use Rattle.conda_json.specs.Json.{list_at, number_at, text_at}
 use Rattle.conda_json.specs.declared.optional.Null.{Null}
-use Rattle.conda_record.specs.Records.{noarch_of, record_data, record_members, record_read, spec_data, specs_data, timestamp_of}
-use Rattle.conda_record.specs.Rules.{HasNoGlob, IsRecord, IsWellFormed, MayWriteSpecs, ReadsBack, WriteSpecs, WritesSpec}
+use Rattle.conda_record.specs.Records.{noarch_of, record_data, record_members, record_read, specs_data, timestamp_of}
+use Rattle.conda_record.specs.Rules.{HasNoGlob, IsRecord, IsWellFormed, MayWriteSpecs, ReadsBack, WriteSpecs}
 use Rattle.conda_record.specs.declared.noarch.Noarch.{Noarch}
 use Rattle.conda_record.specs.declared.pkg_record.PkgRecord.{PkgRecord}
 use Rattle.conda_record.proofs.ReadLemmas.{Laws, record_law}

@@ -24,7 +24,7 @@ use Rattle.conda_json.specs.Json.{list_at, number_at, text_at}
 use Rattle.conda_json.specs.Shown.{bound, cleared, guarded, kept, present, refused, same}
 use Rattle.conda_json.specs.declared.optional.Null.{Null}
 use Rattle.conda_record.specs.Records.{build_number_read, build_read, constrains_read, depends_read, dist_read, is_of_parts, is_package_byte, listed_specs, name_read, noarch_of, package_name, plain_spec, record_read, same_dist, same_subdir, specs_read, stem_of, subdir_read, timestamp_of, version_field_read, without_glob}
-use Rattle.conda_record.specs.Rules.{HasNoGlob, IsRecord, MayWriteSpecs, NamesDist, WriteSpecs, WritesSpec}
+use Rattle.conda_record.specs.Rules.{IsRecord, MayWriteSpecs, NamesDist, WriteSpecs, WritesSpec}
 use Rattle.conda_record.specs.declared.error.RecordField.{RecordField}
 use Rattle.conda_record.specs.declared.noarch.Noarch.{Noarch}
 use Rattle.conda_record.specs.declared.pkg_record.PkgRecord.{PkgRecord}

@@ -1,6 +1,6 @@
 ghost use Rattle.std.specs.Prelude.{◌≡◌, IfOk, Err, OnErr, OnOk, Ok};
 ghost use Rattle.std.specs.List.{AllByRecursion};
-ghost use Rattle.serde_json.specs.Data.{put as with_member, string};
+ghost use Rattle.serde_json.specs.Data.{array, number, put as with_member, string, unsigned};
 ghost use Rattle.serde_json.specs.View.{items_view, members_view, view};
 ghost use Rattle.conda_record.specs.Records as records;
 ghost use Rattle.conda_record.specs.Records.{key_of, record_data, record_members, record_read};
@@ -44,17 +44,35 @@ fn specs_value(alloc: Global, specs: &[Spec]) -> Result<Vec<Value>, AllocError>
 type Members = Map<String, Value>;
 
 /// Puts a member that is a text.
-fn put_text(
-    alloc: Global,
-    members: &mut Members,
-    name: &str,
-    text: &str,
-) -> Result<(), AllocError>
+fn put_text(alloc: Global, members: &mut Members, name: &str, text: &str) -> Result<(), AllocError>
     ensures { OnOk result (members_view members.new.entries
         ≡ with_member name.now (string text.now) (members_view members.old.entries)) }
 {
     let value = Value::try_from_str(alloc, text)?;
     put(members, alloc, name, value)
+}
+
+/// Puts a member that is a whole number.
+fn put_number(alloc: Global, members: &mut Members, name: &str, n: u64) -> Result<(), AllocError>
+    ensures { OnOk result (members_view members.new.entries
+        ≡ with_member name.now (number (unsigned n)) (members_view members.old.entries)) }
+{
+    put(members, alloc, name, Value::from(n))
+}
+
+/// Puts a member that is a list of specifications.
+fn put_specs(
+    alloc: Global,
+    members: &mut Members,
+    name: &str,
+    specs: &[Spec],
+) -> Result<(), AllocError>
+    ensures member { OnOk result (members_view members.new.entries
+        ≡ with_member name.now (array (specs_data specs.now)) (members_view members.old.entries)) }
+    ensures again { OnOk result (AllByRecursion ReadsBack specs.now) }
+{
+    let list = specs_value(alloc, specs)?;
+    put(members, alloc, name, Value::Array(list))
 }
 
 impl PkgRecord {
@@ -65,18 +83,16 @@ impl PkgRecord {
         ensures depends { OnOk result (AllByRecursion ReadsBack self.now.depends) }
         ensures constrains { OnOk result (AllByRecursion ReadsBack self.now.constrains) }
     {
-        let constrains = specs_value(alloc, self.constrains.as_slice())?;
-        let depends = specs_value(alloc, self.depends.as_slice())?;
         let mut made = Map::new(alloc);
         put_text(alloc, &mut made, "build", self.build.as_str())?;
-        put(&mut made, alloc, "build_number", Value::from(self.build_number))?;
+        put_number(alloc, &mut made, "build_number", self.build_number)?;
         put_text(alloc, &mut made, "channel", self.channel.as_str())?;
-        put(&mut made, alloc, "constrains", Value::Array(constrains))?;
-        put(&mut made, alloc, "depends", Value::Array(depends))?;
+        put_specs(alloc, &mut made, "constrains", self.constrains.as_slice())?;
+        put_specs(alloc, &mut made, "depends", self.depends.as_slice())?;
         put_text(alloc, &mut made, "dist", self.dist.text())?;
         put_text(alloc, &mut made, "name", self.name.as_str())?;
         put_text(alloc, &mut made, "subdir", self.subdir.as_str())?;
-        put(&mut made, alloc, "timestamp", Value::from(self.timestamp))?;
+        put_number(alloc, &mut made, "timestamp", self.timestamp)?;
         put_text(alloc, &mut made, "version", self.version.text())?;
         Ok(made)
     }
