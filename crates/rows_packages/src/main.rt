@@ -4,6 +4,7 @@
 mod link;
 mod paths;
 mod record;
+mod repodata;
 
 use conda_base::Text;
 use rows_text::{Table, print_rows};
@@ -25,7 +26,10 @@ impl Table for Packages {
         if let Some(answer) = link::answer(alloc, call, arguments)? {
             return Ok(Some(answer));
         }
-        record::answer(alloc, call, arguments)
+        if let Some(answer) = record::answer(alloc, call, arguments)? {
+            return Ok(Some(answer));
+        }
+        repodata::answer(alloc, call, arguments)
     }
 }
 

@@ -1,0 +1,4 @@
+pub mod AscendingLemmas
+pub mod EntryLemmas
+pub mod OrderLemmas
+pub mod RuleLemmas

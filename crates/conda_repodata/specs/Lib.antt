@@ -1,0 +1,4 @@
+pub mod Entries
+pub mod Ascending
+pub mod Reading
+pub mod Rules
