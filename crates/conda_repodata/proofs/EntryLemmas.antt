@@ -117,7 +117,7 @@ walk_in_order packages no_members p c = in_order Section.Packages packages p
 walk_in_order packages (member file value rest) p c =
     let e : Entry = record { section = Section.PackagesConda; file = file; value = value } in (
       each_of_both (Before e) (entries_of Section.PackagesConda rest) (entries_of Section.Packages packages) (behind Section.PackagesConda file value rest c.0 c.2)
-      (each (entries_of Section.Packages packages) (λ f h. inr (refl, h)) (of_section Section.Packages packages)),
+          (each (entries_of Section.Packages packages) (λ f h. inr (refl, h)) (of_section Section.Packages packages)),
       walk_in_order packages rest p c.2,
     )
 

@@ -320,18 +320,20 @@ module _ (law : RecordLaw) (channel subdir : List ℕ) (text : Data) (ascend : K
         let all = records_of channel subdir conda ++ records_of channel subdir packages in
         let has = contains_at nat_list_cmp_total dist_of (ascending C dist_of all) (ascends nat_list_cmp_total dist_of exact_bytes all) pkg in
         let same : at nat_list_cmp_total dist_of pkg.dist (ascending C dist_of all) ≡ found channel subdir pkg.dist (walk packages conda) =
-        first_kept nat_list_cmp_total dist_of exact_bytes all pkg.dist ∙ ap (at nat_list_cmp_total dist_of pkg.dist) (records_are channel subdir packages conda) in
-        (λ c. least_taken pkg (found_least channel subdir law (walk packages conda) order pkg (sym same ∙ has.0 c)),
-        λ t. has.1 (same ∙ least_found channel subdir law (walk packages conda) order pkg (taken_least pkg t)))
+        first_kept nat_list_cmp_total dist_of exact_bytes all pkg.dist ∙ ap (at nat_list_cmp_total dist_of pkg.dist) (records_are channel subdir packages conda) in (
+          λ c. least_taken pkg (found_least channel subdir law (walk packages conda) order pkg (sym same ∙ has.0 c)),
+          λ t. has.1 (same ∙ least_found channel subdir law (walk packages conda) order pkg (taken_least pkg t)),
+        )
 
     set_aside : (u : Unread) → Contains (ascending place_cmp place_of (unread_of Section.PackagesConda channel subdir conda ++ unread_of Section.Packages channel subdir packages)) u ↔ IsUnread text channel subdir u
     set_aside u =
         let all = unread_of Section.PackagesConda channel subdir conda ++ unread_of Section.Packages channel subdir packages in
         let has = contains_at place_total place_of (ascending place_cmp place_of all) (ascends place_total place_of place_exact all) u in
         let same : at place_total place_of (place_of u) (ascending place_cmp place_of all) ≡ missed channel subdir (place_of u) (walk packages conda) =
-        first_kept place_total place_of place_exact all (place_of u) ∙ ap (at place_total place_of (place_of u)) (unread_are channel subdir packages conda) in
-        (λ c. let m = missed_is channel subdir (walk packages conda) u (sym same ∙ has.0 c) in (m.0, in_stands (entry_at u.section u.file m.0) m.1, m.2),
-        λ t. has.1 (same ∙ is_missed channel subdir (walk packages conda) order u (t.0, stands_in (entry_at u.section u.file t.0) t.1, t.2)))
+        first_kept place_total place_of place_exact all (place_of u) ∙ ap (at place_total place_of (place_of u)) (unread_are channel subdir packages conda) in (
+          λ c. let m = missed_is channel subdir (walk packages conda) u (sym same ∙ has.0 c) in (m.0, in_stands (entry_at u.section u.file m.0) m.1, m.2),
+          λ t. has.1 (same ∙ is_missed channel subdir (walk packages conda) order u (t.0, stands_in (entry_at u.section u.file t.0) t.1, t.2)),
+        )
 
     meant : IsRepodata text channel subdir (repodata_with channel subdir packages conda)
     meant = record {
