@@ -1,5 +1,5 @@
 -- What is read of a command, on the command line or in a line of a script, by the grammar and by the first fault.
-use Rattle.std.proofs.Common.{◌≡◌, ℕ, ◌+◌, ◌<◌, ◌≤◌, ◌⊎◌, inl, inr, Bool, true, false, List, [], ◌∷◌, ◌++◌, length, refl, sym, ap, subst, ◌∙◌, arith, true≢false}
+use Rattle.std.proofs.Common.{◌≡◌, ℕ, ◌+◌, ◌<◌, ◌≤◌, ◌⊎◌, inl, inr, Bool, true, false, List, [], ◌∷◌, ◌++◌, length, refl, sym, ap, subst, ◌∙◌, arith}
 use Rattle.std.specs.Prelude.{Option, None, Some, Ok, Err, if◌then◌else◌, not, nat_lt, ◌&&◌, ◌||◌, ◌==◌, is_none, is_some}
 use Rattle.std.proofs.lemmas.Bool.Decides.{nat_tests}
 use Rattle.std.specs.List.{list_any}
@@ -11,8 +11,8 @@ use Rattle.conda_words.specs.Causes.{is_missing, item_cause, item_fault}
 use Rattle.conda_words.specs.Cut.{count, given, items}
 use Rattle.conda_words.specs.Grammar.{Cuts, HasCommandFault, HasRowFault, IsCommand, IsFirstBad, IsLacking}
 use Rattle.conda_words.specs.Grammar.Cuts.{done, ends, flag, joined, plain_word, valued}
-use Rattle.conda_words.specs.Reading.{Fault, begun, command_read, finished, lacks, missing, named_read, plain_command, settled, with_items}
-use Rattle.conda_words.specs.Says.{command_of, known_with, plain_words, values, words_taken}
+use Rattle.conda_words.specs.Reading.{Fault, begun, command_read, finished, lacks, missing, named_read, plain_command, settled}
+use Rattle.conda_words.specs.Says.{command_of, known_with, plain_words, words_taken}
 use Rattle.conda_words.specs.Table.{Subcommand, has_one_prefix, least, subcommand_of}
 use Rattle.conda_words.specs.declared.command.Command.{Command}
 use Rattle.conda_words.specs.declared.command.Verb.{Verb}

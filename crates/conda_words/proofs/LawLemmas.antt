@@ -1,18 +1,17 @@
 -- What is read from the words of a command line, by the grammar and by the first fault.
-use Rattle.std.proofs.Common.{◌≡◌, ℕ, ◌⊎◌, inl, inr, Bool, true, false, List, [], ◌∷◌, ◌++◌, length, refl, sym, ap, subst, ◌∙◌, lit≤}
-use Rattle.std.specs.Prelude.{Option, None, Some, Ok, Err, unwrap_or}
+use Rattle.std.proofs.Common.{◌≡◌, ℕ, ◌⊎◌, inl, inr, List, [], ◌∷◌, ◌++◌, refl, sym, ap, subst, ◌∙◌, lit≤}
+use Rattle.std.specs.Prelude.{Option, None, Some, Ok, Err}
 use Rattle.conda_base.specs.Reads.{Read, ◌>>=◌, unless}
 use Rattle.conda_base.specs.Signs.{equals}
 use Rattle.conda_base.specs.Texts.{cut_first}
 use Rattle.conda_words.specs.Grammar.{HasFault, IsNestedAt, Means}
 use Rattle.conda_words.specs.Reading.{Fault, command_read, nested_fault, words_read}
-use Rattle.conda_words.specs.Says.{are_apart, different, values}
+use Rattle.conda_words.specs.Says.{are_apart, different}
 use Rattle.conda_words.specs.declared.command.Command.{Command}
 use Rattle.conda_words.specs.declared.error.Why.{Why}
 use Rattle.conda_words.specs.declared.error.Why.TheVariants as whys
 use Rattle.conda_words.specs.declared.reading.Reading.{Reading}
-use Rattle.conda_words.specs.declared.table.Kind.TheVariants as kinds
-use Rattle.conda_words.proofs.CommandLemmas.{IsReadAs, command_reads, fault_read, pair_at, read_as, read_fault, reading_by}
+use Rattle.conda_words.proofs.CommandLemmas.{IsReadAs, command_reads, fault_read, pair_at, read_as, read_fault}
 use Rattle.conda_words.proofs.FirstLemmas.{first, first_some, some_first}
 use Rattle.conda_words.proofs.PrefixLemmas.{is_nested_here, known_behind, known_on, nested_none, nested_so, none_nested}
 use Rattle.conda_words.proofs.ReadingLemmas.{SecondErr, bind_err, bind_ok, unless_err, unless_ok}

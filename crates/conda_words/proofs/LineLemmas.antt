@@ -1,10 +1,10 @@
 -- What is read from a script, by the grammar of its lines and by the first bad one.
-use Rattle.std.proofs.Common.{◌≡◌, ℕ, ◌+◌, ◌<◌, ◌≤◌, ◌⊎◌, inl, inr, Bool, true, false, List, [], ◌∷◌, ◌++◌, length, take, cond, refl, sym, ap, subst, ◌∙◌, arith, append_assoc, lit≤, true≢false}
-use Rattle.std.specs.Prelude.{Option, None, Some, Ok, Err, if◌then◌else◌, nat_lt, position, slice_get, ◌==◌}
+use Rattle.std.proofs.Common.{◌≡◌, ℕ, ◌+◌, ◌<◌, ◌≤◌, ◌⊎◌, inl, inr, Bool, true, false, List, [], ◌∷◌, ◌++◌, length, cond, refl, sym, ap, subst, ◌∙◌, arith, append_assoc, lit≤, true≢false}
+use Rattle.std.specs.Prelude.{Option, None, Some, Ok, Err, if◌then◌else◌, nat_lt, position}
 use Rattle.std.proofs.lemmas.Bool.Decides.{nat_tests}
 use Rattle.std.proofs.lemmas.Grind.{flat_map-append}
 use Rattle.std.proofs.lemmas.List.{append-nil}
-use Rattle.std.specs.List.{flat_map, list_any, onto_first, slice_split}
+use Rattle.std.specs.List.{onto_first, slice_split}
 use Rattle.std.specs.Option.{option_or}
 use Rattle.conda_base.specs.Reads.{Read, ◌>>=◌, unless}
 use Rattle.conda_base.specs.Signs.{equals, space}
@@ -26,7 +26,7 @@ use Rattle.conda_words.specs.declared.error.Why.TheVariants as whys
 use Rattle.conda_words.specs.declared.reading.Reading.{Reading}
 use Rattle.conda_words.specs.declared.script.Script.{Script}
 use Rattle.conda_words.specs.declared.table.Kind.TheVariants as kinds
-use Rattle.conda_words.proofs.CommandLemmas.{IsReadAs, command_reads, fault_read, pair_at, read_as, read_fault, reading_by}
+use Rattle.conda_words.proofs.CommandLemmas.{command_reads, fault_read, read_as, read_fault, reading_by}
 use Rattle.conda_words.proofs.EmptyLemmas.{empty_among, empty_found, fewer_empty, found_empty, no_empty, none_empty, some_fewer}
 use Rattle.conda_words.proofs.FirstLemmas.{first, first_append, first_some, or_none, some_first}
 use Rattle.conda_words.proofs.LawLemmas.{nested_some}

@@ -1,13 +1,11 @@
 -- What a reading of items answers, by its items.
-use Rattle.std.proofs.Common.{◌≡◌, ℕ, ◌⊎◌, inl, inr, Bool, true, false, List, [], ◌∷◌, ◌++◌, refl, sym, ap, ◌∙◌, append_assoc}
+use Rattle.std.proofs.Common.{◌≡◌, ℕ, ◌⊎◌, inl, inr, Bool, true, false, List, [], ◌∷◌, ◌++◌, refl}
 use Rattle.std.specs.Prelude.{Option, None, Some, Ok, Err, if◌then◌else◌, not, ◌&&◌, ◌||◌, is_none}
-use Rattle.std.proofs.lemmas.List.{append-nil}
 use Rattle.conda_base.specs.Reads.{Read, ◌>>=◌, unless}
 use Rattle.conda_words.specs.Cut.{given}
-use Rattle.conda_words.specs.Reading.{Fault, lacks_value, with_any_value, with_item, with_items}
+use Rattle.conda_words.specs.Reading.{lacks_value, with_any_value, with_item, with_items}
 use Rattle.conda_words.specs.Table.{Subcommand, is_kind, repeats}
 use Rattle.conda_words.specs.declared.cut.Item.{Item}
-use Rattle.conda_words.specs.declared.error.Why.{Why}
 use Rattle.conda_words.specs.declared.reading.Reading.{Reading}
 use Rattle.conda_words.specs.declared.table.Kind.{Kind}
 use Rattle.conda_words.specs.declared.table.Kind.TheVariants as kinds

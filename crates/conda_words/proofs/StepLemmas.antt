@@ -1,17 +1,17 @@
 -- One item more: what the reader makes of it is what the items say, or its fault.
-use Rattle.std.proofs.Common.{◌≡◌, ℕ, ◌+◌, Bool, true, false, List, [], ◌∷◌, ◌++◌, length, map, refl, sym, ap, ◌∙◌, append_assoc}
+use Rattle.std.proofs.Common.{◌≡◌, ℕ, Bool, true, false, List, [], ◌∷◌, ◌++◌, length, map, refl, sym, ap, ◌∙◌, append_assoc}
 use Rattle.std.specs.Prelude.{Option, None, Some, Ok, Err, if◌then◌else◌, not, nat_lt, ◌==◌, ◌&&◌, ◌||◌, codes, is_some, option_map, option_and_then, unwrap_or}
 use Rattle.std.proofs.lemmas.Grind.{flat_map-append}
 use Rattle.std.proofs.lemmas.List.{append-nil, map-append}
 use Rattle.std.proofs.lemmas.List.Elements.{filter_map-append}
-use Rattle.std.specs.List.{cons_option, filter_map, flat_map, list_any}
+use Rattle.std.specs.List.{cons_option, filter_map, list_any}
 use Rattle.std.specs.Option.{option_or}
 use Rattle.conda_base.specs.Reads.{Read, ◌>>=◌, unless}
 use Rattle.conda_base.specs.Texts.{is_empty}
-use Rattle.conda_words.specs.Causes.{because_not, channel_cause, item_cause, item_fault, limit_cause, number_cause, prefix_cause, value_cause, word_cause}
+use Rattle.conda_words.specs.Causes.{because_not, item_fault, limit_cause, number_cause, prefix_cause, value_cause, word_cause}
 use Rattle.conda_words.specs.Cut.{count, given, item}
 use Rattle.conda_words.specs.Reading.{Fault, number_value, numbered, with_any_value, with_item, with_items, with_word}
-use Rattle.conda_words.specs.Says.{command_of, is_among, is_nested, is_prefix, known_with, last_or, plain_words, value_of, values, verb_named, verbs_named, word_verb}
+use Rattle.conda_words.specs.Says.{command_of, is_among, is_nested, is_prefix, known_with, last_or, plain_words, value_of, values, verb_named, verbs_named}
 use Rattle.conda_words.specs.Table.{Subcommand, is_kind, repeats}
 use Rattle.conda_words.specs.Values.{is_channel, is_virtual, number_in, virtual_of}
 use Rattle.conda_words.specs.declared.command.Command.{Command}

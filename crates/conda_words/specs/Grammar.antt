@@ -12,7 +12,6 @@ use Rattle.conda_words.specs.declared.error.Why.{Why}
 use Rattle.conda_words.specs.declared.error.Why.TheVariants as whys
 use Rattle.conda_words.specs.declared.table.Kind.{Kind}
 use Rattle.conda_words.specs.declared.table.Kind.TheVariants as kinds
-use Rattle.conda_words.specs.declared.table.Words.{Words}
 
 -- ---- the grammar
 

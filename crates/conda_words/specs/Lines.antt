@@ -1,5 +1,5 @@
 -- The lines of a script as a grammar: what they mean, and the first bad one. This project's own.
-use Rattle.std.specs.Prelude.{◌≡◌, ◌<◌, ◌≤◌, ℕ, ◌+◌, ◌⊎◌, Bool, true, false, List, [], ◌∷◌, ◌++◌, length, take, Option, None, Some, slice_get}
+use Rattle.std.specs.Prelude.{◌≡◌, ◌<◌, ◌≤◌, ℕ, ◌+◌, ◌⊎◌, true, false, List, [], ◌∷◌, ◌++◌, length, take, None, Some, slice_get}
 use Rattle.std.specs.List.{flat_map, list_any}
 use Rattle.conda_base.specs.Signs.{space}
 use Rattle.conda_base.specs.Texts.{is_empty}
