@@ -1,5 +1,5 @@
 -- What is read of bytes, and that the names of what is read ascend.
-use Rattle.std.specs.Prelude.{◌≡◌, ℕ, List, Bool, true, false, Option, Some, None, IfSome, option_map, option_and_then, if◌then◌else◌}
+use Rattle.std.specs.Prelude.{◌≡◌, ℕ, List, Bool, true, false, Option, Some, None, IfSome, option_map, option_and_then, if◌then◌else◌, Ok}
 use Rattle.std.proofs.Common.{refl, ap, ◌∙◌, subst}
 use Rattle.std.specs.Ordering.{nat_cmp, match_ordering, ordering_reverse}
 use Rattle.std.specs.declared.cmp.Ordering.{Ordering}
@@ -10,9 +10,12 @@ use Rattle.std.specs.Str.{is_utf8, IsUtf8}
 use Rattle.std.proofs.lemmas.Str.{is_utf8-from_IsUtf8, IsUtf8-from_is_utf8}
 use Rattle.json.specs.Json as json
 use Rattle.json.specs.Lex.{tokens}
-use Rattle.serde_json.specs.Data.{Data, number, array, object, item, Members, no_members, member, put}
+use Rattle.std.specs.Option.{ok_or}
+use Rattle.serde_json.specs.Data.{Data, null, boolean, number, string, array, object, item, Members, no_members, member, put}
 use Rattle.serde_json.specs.Read.{read, of_json, of_items, of_members, number_of, max_depth}
-use Rattle.conda_json.specs.Json.{json_of, IsBelowFirst, KeysAscend, KeysAscendInItems, KeysAscendInMembers}
+use Rattle.conda_json.specs.Shown.{bound, present}
+use Rattle.conda_json.specs.declared.error.JsonErr.{JsonErr}
+use Rattle.conda_json.specs.Json.{if_object, json_of, json_read, object_read, IsBelowFirst, KeysAscend, KeysAscendInItems, KeysAscendInMembers}
 
 -- UTF-8 bytes mean what is read of them
 pub json_of-read : (bytes : List ℕ) (value : Data) → IsUtf8 bytes → read bytes ≡ Some value → json_of bytes ≡ Some value
@@ -84,3 +87,24 @@ mutual
 pub read-ascends : (bytes : List ℕ) (value : Data) → read bytes ≡ Some value → KeysAscend value
 read-ascends bytes value reads = subst (λ o. IfSome o KeysAscend) reads
     (IfSome-then of_json (λ _. Unit {0}) KeysAscend (option_and_then (λ p. json.if_last p.0 p.1) (json.value max_depth (tokens bytes))) (anything (option_and_then (λ p. json.if_last p.0 p.1) (json.value max_depth (tokens bytes)))) (λ j _. json-ascends j))
+
+if_some : {A : Type 0} (b : Bool) (o : Option A) (x : A) → (if b then o else None) ≡ Some x → o ≡ Some x
+if_some true o x e = e
+if_some false o x e = cc e
+
+-- the names of what bytes mean ascend
+pub json_of-ascends : (bytes : List ℕ) (value : Data) → json_of bytes ≡ Some value → KeysAscend value
+json_of-ascends bytes value e = read-ascends bytes value (if_some (is_utf8 bytes) (read bytes) value e)
+
+object_itself : (value found : Data) → ok_or (if_object value) JsonErr.BadJson ≡ Ok found → value ≡ found
+object_itself null found e = cc e
+object_itself (boolean b) found e = cc e
+object_itself (number n) found e = cc e
+object_itself (string s) found e = cc e
+object_itself (array items) found e = cc e
+object_itself (object members) found e = cc e
+
+pub object_read-ascends : (bytes : List ℕ) (value : Data) → object_read bytes ≡ Ok value → KeysAscend value
+object_read-ascends bytes value e =
+    let all = bound (json_read bytes) (λ value. ok_or (if_object value) JsonErr.BadJson) value e in
+    subst KeysAscend (object_itself all.0 value all.2) (json_of-ascends bytes all.0 (present (json_of bytes) JsonErr.BadJson all.0 all.1))

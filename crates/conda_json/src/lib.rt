@@ -4,12 +4,14 @@
 
 mod error;
 mod fields;
+mod laws;
 mod optional;
 mod required;
 mod text;
 
 pub use error::JsonErr;
 pub use fields::{list_of, number_of, object_of, text_of};
+pub use laws::json_laws;
 pub use optional::{
     Null, optional_list, optional_members, optional_number, optional_object, optional_text,
     optional_truth,

@@ -15,15 +15,15 @@ use Rattle.serde_json.specs.Data.{Data, null, boolean, number, string, array, ob
 use Rattle.serde_json.specs.Find.{as_object, get, get_member}
 use Rattle.conda_base.specs.Reads.{Read, ◌>>=◌}
 use Rattle.conda_json.specs.Fields.{is_absent, optional, or_fault}
-use Rattle.conda_json.specs.Json.{KeysAscend, KeysAscendInMembers, object_at}
-use Rattle.conda_json.specs.Shown.{bound}
+use Rattle.conda_json.specs.Json.{KeysAscend, KeysAscendInMembers, object_at, object_read}
+use Rattle.conda_json.specs.Shown.{bound, cleared}
 use Rattle.conda_json.specs.declared.optional.Null.{Null}
 use Rattle.conda_path.specs.Files.{IsFileOf}
 use Rattle.conda_record.specs.declared.error.RecordField.{RecordField}
 use Rattle.conda_record.specs.declared.pkg_record.PkgRecord.{PkgRecord}
 use Rattle.conda_repodata.specs.Ascending.{ascending, keyed}
 use Rattle.conda_repodata.specs.Entries.{aside_of, dist_of, entry_read, place_cmp, place_of, rank, section_name}
-use Rattle.conda_repodata.specs.Reading.{if_read, if_unread, records_of, repodata_of, repodata_with, section_field, section_read, unread_of}
+use Rattle.conda_repodata.specs.Reading.{if_read, if_unread, records_of, repodata_of, repodata_read, repodata_with, section_field, section_read, unread_of}
 use Rattle.conda_repodata.specs.Rules.{Entry, IsEntry, IsRepodata, IsTaken, IsUnread}
 use Rattle.conda_repodata.specs.declared.aside.Aside.{Aside}
 use Rattle.conda_repodata.specs.declared.aside.Section.{Section}
@@ -383,3 +383,12 @@ module _ (law : RecordLaw) (channel subdir : List ℕ) (text : Data) (ascend : K
 
   pub repodata_law : (made : Repodata) → (repodata_of text channel subdir ≡ Ok made) ↔ IsRepodata text channel subdir made
   repodata_law made = (read_means made, meant_reads made)
+
+pub bytes_law : RecordLaw → ((bytes : List ℕ) (text : Data) → object_read bytes ≡ Ok text → KeysAscend text) → (bytes channel subdir : List ℕ) (made : Repodata)
+    → (repodata_read bytes channel subdir ≡ Ok made) ↔ ((text : Data) × (object_read bytes ≡ Ok text) × IsRepodata text channel subdir made)
+bytes_law law ascend bytes channel subdir made =
+    let read_on : Data → Read Repodata RepodataField = λ text. repodata_of text channel subdir in
+    (λ e. let all = bound (or_fault (object_read bytes) RepodataField.Json) read_on made e in
+      let text = cleared (object_read bytes) RepodataField.Json all.0 all.1 in
+      (all.0, text, (repodata_law law channel subdir all.0 (ascend bytes all.0 text) made).0 all.2),
+    λ h. ap (λ r. or_fault r RepodataField.Json >>= read_on) h.1 ∙ (repodata_law law channel subdir h.0 (ascend bytes h.0 h.1) made).1 h.2)
