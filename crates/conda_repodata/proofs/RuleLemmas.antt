@@ -387,8 +387,9 @@ module _ (law : RecordLaw) (channel subdir : List ℕ) (text : Data) (ascend : K
 pub bytes_law : RecordLaw → ((bytes : List ℕ) (text : Data) → object_read bytes ≡ Ok text → KeysAscend text) → (bytes channel subdir : List ℕ) (made : Repodata)
     → (repodata_read bytes channel subdir ≡ Ok made) ↔ ((text : Data) × (object_read bytes ≡ Ok text) × IsRepodata text channel subdir made)
 bytes_law law ascend bytes channel subdir made =
-    let read_on : Data → Read Repodata RepodataField = λ text. repodata_of text channel subdir in
-    (λ e. let all = bound (or_fault (object_read bytes) RepodataField.Json) read_on made e in
-      let text = cleared (object_read bytes) RepodataField.Json all.0 all.1 in
-      (all.0, text, (repodata_law law channel subdir all.0 (ascend bytes all.0 text) made).0 all.2),
-    λ h. ap (λ r. or_fault r RepodataField.Json >>= read_on) h.1 ∙ (repodata_law law channel subdir h.0 (ascend bytes h.0 h.1) made).1 h.2)
+    let read_on : Data → Read Repodata RepodataField = λ text. repodata_of text channel subdir in (
+      λ e. let all = bound (or_fault (object_read bytes) RepodataField.Json) read_on made e in
+          let text = cleared (object_read bytes) RepodataField.Json all.0 all.1 in
+          (all.0, text, (repodata_law law channel subdir all.0 (ascend bytes all.0 text) made).0 all.2),
+      λ h. ap (λ r. or_fault r RepodataField.Json >>= read_on) h.1 ∙ (repodata_law law channel subdir h.0 (ascend bytes h.0 h.1) made).1 h.2,
+    )
