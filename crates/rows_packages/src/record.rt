@@ -57,7 +57,12 @@ fn shown(alloc: Global, package: &PkgRecord) -> Result<String, AllocError> {
         dist.text()
     )?;
     push_specs(alloc, &mut text, "; depends", package.depends.as_slice())?;
-    push_specs(alloc, &mut text, "; constrains", package.constrains.as_slice())?;
+    push_specs(
+        alloc,
+        &mut text,
+        "; constrains",
+        package.constrains.as_slice(),
+    )?;
     Ok(text)
 }
 
