@@ -1,5 +1,5 @@
 -- The entries of the two objects in the order in which they are read, and that of those of one dist the better one stands before the other.
-use Rattle.std.specs.Prelude.{◌≡◌, ◌↔◌, ℕ, ◌<◌, Bool, true, false, ◌||◌, nat_eq, if◌then◌else◌, is_some, codes, List, [], ◌∷◌, ◌++◌, drop, length, ◌-◌, reverse, take, Option, None, Some, option_and_then, Ok, Err}
+use Rattle.std.specs.Prelude.{◌≡◌, ℕ, ◌<◌, Bool, true, false, nat_eq, if◌then◌else◌, is_some, codes, List, [], ◌∷◌, ◌++◌, drop, length, ◌-◌, reverse, take, Some, Ok}
 use Rattle.std.proofs.Common.{refl, ap, sym, ◌∙◌, subst, inl, inr, ◌⊎◌, arith}
 use Rattle.std.proofs.lemmas.Bool.{true≢false}
 use Rattle.std.proofs.lemmas.Bool.Decides.{Decides-eqb}
@@ -12,7 +12,6 @@ use Rattle.std.proofs.Math.Seq.{drop-append_seam}
 use Rattle.std.specs.Bool.{Decides}
 use Rattle.std.specs.Cmp.Lexicographic.{pointwise, slice_cmp}
 use Rattle.std.specs.List.{AllByRecursion, ends_with}
-use Rattle.std.specs.Option.{option_or}
 use Rattle.std.specs.Ordering.{match_ordering, nat_cmp, ordering_reverse, ordering_then}
 use Rattle.std.specs.declared.cmp.Ordering.{Ordering}
 use Rattle.std.specs.declared.cmp.Ordering.TheVariants.{Less, Equal, Greater}
@@ -117,7 +116,7 @@ walk_in_order packages no_members p c = in_order Section.Packages packages p
 walk_in_order packages (member file value rest) p c =
     let e : Entry = record { section = Section.PackagesConda; file = file; value = value } in (
       each_of_both (Before e) (entries_of Section.PackagesConda rest) (entries_of Section.Packages packages) (behind Section.PackagesConda file value rest c.0 c.2)
-      (each (entries_of Section.Packages packages) (λ f h. inr (refl, h)) (of_section Section.Packages packages)),
+          (each (entries_of Section.Packages packages) (λ f h. inr (refl, h)) (of_section Section.Packages packages)),
       walk_in_order packages rest p c.2,
     )
 

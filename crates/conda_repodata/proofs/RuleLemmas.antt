@@ -1,12 +1,11 @@
 -- What is read of a text whose names ascend is what the text means, and nothing else is.
-use Rattle.std.specs.Prelude.{◌≡◌, ◌≢◌, ◌↔◌, ◌≤◌, ◌<◌, ℕ, Bool, true, false, cond, not, if◌then◌else◌, List, [], ◌∷◌, ◌++◌, map, codes, Option, None, Some, option_and_then, unwrap_or, Ok, Err, IsOk}
+use Rattle.std.specs.Prelude.{◌≡◌, ◌↔◌, ◌≤◌, ◌<◌, ℕ, Bool, true, false, cond, not, if◌then◌else◌, List, [], ◌∷◌, ◌++◌, map, codes, Option, None, Some, option_and_then, unwrap_or, Ok, Err, IsOk}
 use Rattle.std.proofs.Common.{refl, ap, sym, ◌∙◌, subst, inl, inr, ◌⊎◌, arith}
 use Rattle.std.proofs.lemmas.Bool.{true≢false}
 use Rattle.std.proofs.lemmas.Cmp.{nat_list_cmp_total, tied_itself}
 use Rattle.std.proofs.lemmas.Map.Lookups.{exact_bytes}
 use Rattle.std.specs.Cmp.Lexicographic.{slice_cmp}
-use Rattle.std.specs.List.{AllByRecursion, Contains}
-use Rattle.std.specs.List.Sorted.{IsStrictlySortedBy}
+use Rattle.std.specs.List.{Contains}
 use Rattle.std.specs.Option.{ok_or, option_map_or}
 use Rattle.std.specs.Ordering.{eq_by_cmp, is_eq, match_ordering, nat_cmp}
 use Rattle.std.specs.declared.cmp.Ordering.{Ordering}
@@ -21,7 +20,7 @@ use Rattle.conda_json.specs.declared.optional.Null.{Null}
 use Rattle.conda_path.specs.Files.{IsFileOf}
 use Rattle.conda_record.specs.declared.error.RecordField.{RecordField}
 use Rattle.conda_record.specs.declared.pkg_record.PkgRecord.{PkgRecord}
-use Rattle.conda_repodata.specs.Ascending.{ascending, keyed}
+use Rattle.conda_repodata.specs.Ascending.{ascending}
 use Rattle.conda_repodata.specs.Entries.{aside_of, dist_of, entry_read, place_cmp, place_of, rank, section_name}
 use Rattle.conda_repodata.specs.Reading.{if_read, if_unread, records_of, repodata_of, repodata_read, repodata_with, section_field, section_read, unread_of}
 use Rattle.conda_repodata.specs.Rules.{Entry, IsEntry, IsRepodata, IsTaken, IsUnread}
@@ -320,18 +319,20 @@ module _ (law : RecordLaw) (channel subdir : List ℕ) (text : Data) (ascend : K
         let all = records_of channel subdir conda ++ records_of channel subdir packages in
         let has = contains_at nat_list_cmp_total dist_of (ascending C dist_of all) (ascends nat_list_cmp_total dist_of exact_bytes all) pkg in
         let same : at nat_list_cmp_total dist_of pkg.dist (ascending C dist_of all) ≡ found channel subdir pkg.dist (walk packages conda) =
-        first_kept nat_list_cmp_total dist_of exact_bytes all pkg.dist ∙ ap (at nat_list_cmp_total dist_of pkg.dist) (records_are channel subdir packages conda) in
-        (λ c. least_taken pkg (found_least channel subdir law (walk packages conda) order pkg (sym same ∙ has.0 c)),
-        λ t. has.1 (same ∙ least_found channel subdir law (walk packages conda) order pkg (taken_least pkg t)))
+        first_kept nat_list_cmp_total dist_of exact_bytes all pkg.dist ∙ ap (at nat_list_cmp_total dist_of pkg.dist) (records_are channel subdir packages conda) in (
+          λ c. least_taken pkg (found_least channel subdir law (walk packages conda) order pkg (sym same ∙ has.0 c)),
+          λ t. has.1 (same ∙ least_found channel subdir law (walk packages conda) order pkg (taken_least pkg t)),
+        )
 
     set_aside : (u : Unread) → Contains (ascending place_cmp place_of (unread_of Section.PackagesConda channel subdir conda ++ unread_of Section.Packages channel subdir packages)) u ↔ IsUnread text channel subdir u
     set_aside u =
         let all = unread_of Section.PackagesConda channel subdir conda ++ unread_of Section.Packages channel subdir packages in
         let has = contains_at place_total place_of (ascending place_cmp place_of all) (ascends place_total place_of place_exact all) u in
         let same : at place_total place_of (place_of u) (ascending place_cmp place_of all) ≡ missed channel subdir (place_of u) (walk packages conda) =
-        first_kept place_total place_of place_exact all (place_of u) ∙ ap (at place_total place_of (place_of u)) (unread_are channel subdir packages conda) in
-        (λ c. let m = missed_is channel subdir (walk packages conda) u (sym same ∙ has.0 c) in (m.0, in_stands (entry_at u.section u.file m.0) m.1, m.2),
-        λ t. has.1 (same ∙ is_missed channel subdir (walk packages conda) order u (t.0, stands_in (entry_at u.section u.file t.0) t.1, t.2)))
+        first_kept place_total place_of place_exact all (place_of u) ∙ ap (at place_total place_of (place_of u)) (unread_are channel subdir packages conda) in (
+          λ c. let m = missed_is channel subdir (walk packages conda) u (sym same ∙ has.0 c) in (m.0, in_stands (entry_at u.section u.file m.0) m.1, m.2),
+          λ t. has.1 (same ∙ is_missed channel subdir (walk packages conda) order u (t.0, stands_in (entry_at u.section u.file t.0) t.1, t.2)),
+        )
 
     meant : IsRepodata text channel subdir (repodata_with channel subdir packages conda)
     meant = record {
@@ -385,8 +386,9 @@ module _ (law : RecordLaw) (channel subdir : List ℕ) (text : Data) (ascend : K
 pub bytes_law : RecordLaw → ((bytes : List ℕ) (text : Data) → object_read bytes ≡ Ok text → KeysAscend text) → (bytes channel subdir : List ℕ) (made : Repodata)
     → (repodata_read bytes channel subdir ≡ Ok made) ↔ ((text : Data) × (object_read bytes ≡ Ok text) × IsRepodata text channel subdir made)
 bytes_law law ascend bytes channel subdir made =
-    let read_on : Data → Read Repodata RepodataField = λ text. repodata_of text channel subdir in
-    (λ e. let all = bound (or_fault (object_read bytes) RepodataField.Json) read_on made e in
-      let text = cleared (object_read bytes) RepodataField.Json all.0 all.1 in
-      (all.0, text, (repodata_law law channel subdir all.0 (ascend bytes all.0 text) made).0 all.2),
-    λ h. ap (λ r. or_fault r RepodataField.Json >>= read_on) h.1 ∙ (repodata_law law channel subdir h.0 (ascend bytes h.0 h.1) made).1 h.2)
+    let read_on : Data → Read Repodata RepodataField = λ text. repodata_of text channel subdir in (
+      λ e. let all = bound (or_fault (object_read bytes) RepodataField.Json) read_on made e in
+          let text = cleared (object_read bytes) RepodataField.Json all.0 all.1 in
+          (all.0, text, (repodata_law law channel subdir all.0 (ascend bytes all.0 text) made).0 all.2),
+      λ h. ap (λ r. or_fault r RepodataField.Json >>= read_on) h.1 ∙ (repodata_law law channel subdir h.0 (ascend bytes h.0 h.1) made).1 h.2,
+    )
