@@ -1,8 +1,7 @@
 -- Lists in the order of keys: what a finite map of them has, and that sorting and leaving out what ties gives it.
-use Rattle.std.specs.Prelude.{◌≡◌, ◌↔◌, ℕ, ◌+◌, ◌<◌, zero, suc, Bool, true, false, cond, not, ◌&&◌, List, [], ◌∷◌, map, length, filter, Option, None, Some, slice_index_or}
+use Rattle.std.specs.Prelude.{◌≡◌, ◌↔◌, ℕ, ◌<◌, zero, suc, Bool, true, false, cond, not, ◌&&◌, List, [], ◌∷◌, map, length, filter, Option, None, Some, slice_index_or}
 use Rattle.std.proofs.Common.{T, Bor, refl, ap, sym, ◌∙◌, subst, inl, inr, ◌⊎◌, arith}
-use Rattle.std.proofs.lemmas.Bool.{true≢false, false≢true}
-use Rattle.std.proofs.lemmas.Cmp.{alike_right, eq_by_cmp_equiv, on_total, tied_back, tied_itself}
+use Rattle.std.proofs.lemmas.Cmp.{alike_right, on_total, tied_itself}
 use Rattle.std.proofs.lemmas.Fn.{always_returns_same}
 use Rattle.std.proofs.lemmas.List.Elements.{filter_agree}
 use Rattle.std.proofs.lemmas.List.Kept.{IsStrictlySortedBy-dedup}
@@ -11,7 +10,7 @@ use Rattle.std.proofs.lemmas.Map.Lookups.{CmpEqualImpliesEq}
 use Rattle.std.specs.Cmp.{IsStrictWeakOrder, IsTotalOrder}
 use Rattle.std.specs.Fn.{Called, ComparesAs, Mut}
 use Rattle.std.specs.FinMap as fin
-use Rattle.std.specs.FinMap.{FinMap, entries, entries-insert, entries_sorted, from_entries, get-entries, get-from_entries, len-entries, values}
+use Rattle.std.specs.FinMap.{entries, entries-insert, entries_sorted, from_entries, get-entries, get-from_entries, len-entries}
 use Rattle.std.specs.FinMap.Entries.{below_all, by_order, find, find_tied, is_sorted, put, same_entries}
 use Rattle.std.specs.List.{AllByRecursion, Contains, dedup, dedup_from}
 use Rattle.std.specs.List.Sorted.{IsSorted, IsSortedBy, IsStable, IsStableBy, IsStrictlySortedBy, ties}

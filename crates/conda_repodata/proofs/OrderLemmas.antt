@@ -1,12 +1,12 @@
 -- The orders of records and of entries that are set aside.
-use Rattle.std.specs.Prelude.{◌≡◌, ℕ, List}
-use Rattle.std.proofs.Common.{refl, ap}
+use Rattle.std.specs.Prelude.{◌≡◌}
+use Rattle.std.proofs.Common.{refl}
 use Rattle.std.proofs.lemmas.Cmp.{nat_list_cmp_total, on_total, then_total}
 use Rattle.std.proofs.lemmas.Map.Lookups.{CmpEqualImpliesEq, exact_bytes, exact_pairs}
 use Rattle.std.specs.Cmp.{IsTotalOrder}
 use Rattle.std.specs.Cmp.Lexicographic.{slice_cmp}
 use Rattle.std.specs.Ordering.{nat_cmp, ordering_reverse}
-use Rattle.std.specs.declared.cmp.Ordering.TheVariants.{Less, Equal, Greater}
+use Rattle.std.specs.declared.cmp.Ordering.TheVariants.{Less, Equal}
 use Rattle.conda_repodata.specs.Entries.{place_cmp, section_cmp}
 use Rattle.conda_repodata.specs.declared.aside.Section.{Section}
 

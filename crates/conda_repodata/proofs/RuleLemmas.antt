@@ -1,12 +1,11 @@
 -- What is read of a text whose names ascend is what the text means, and nothing else is.
-use Rattle.std.specs.Prelude.{◌≡◌, ◌≢◌, ◌↔◌, ◌≤◌, ◌<◌, ℕ, Bool, true, false, cond, not, if◌then◌else◌, List, [], ◌∷◌, ◌++◌, map, codes, Option, None, Some, option_and_then, unwrap_or, Ok, Err, IsOk}
+use Rattle.std.specs.Prelude.{◌≡◌, ◌↔◌, ◌≤◌, ◌<◌, ℕ, Bool, true, false, cond, not, if◌then◌else◌, List, [], ◌∷◌, ◌++◌, map, codes, Option, None, Some, option_and_then, unwrap_or, Ok, Err, IsOk}
 use Rattle.std.proofs.Common.{refl, ap, sym, ◌∙◌, subst, inl, inr, ◌⊎◌, arith}
 use Rattle.std.proofs.lemmas.Bool.{true≢false}
 use Rattle.std.proofs.lemmas.Cmp.{nat_list_cmp_total, tied_itself}
 use Rattle.std.proofs.lemmas.Map.Lookups.{exact_bytes}
 use Rattle.std.specs.Cmp.Lexicographic.{slice_cmp}
-use Rattle.std.specs.List.{AllByRecursion, Contains}
-use Rattle.std.specs.List.Sorted.{IsStrictlySortedBy}
+use Rattle.std.specs.List.{Contains}
 use Rattle.std.specs.Option.{ok_or, option_map_or}
 use Rattle.std.specs.Ordering.{eq_by_cmp, is_eq, match_ordering, nat_cmp}
 use Rattle.std.specs.declared.cmp.Ordering.{Ordering}
@@ -21,7 +20,7 @@ use Rattle.conda_json.specs.declared.optional.Null.{Null}
 use Rattle.conda_path.specs.Files.{IsFileOf}
 use Rattle.conda_record.specs.declared.error.RecordField.{RecordField}
 use Rattle.conda_record.specs.declared.pkg_record.PkgRecord.{PkgRecord}
-use Rattle.conda_repodata.specs.Ascending.{ascending, keyed}
+use Rattle.conda_repodata.specs.Ascending.{ascending}
 use Rattle.conda_repodata.specs.Entries.{aside_of, dist_of, entry_read, place_cmp, place_of, rank, section_name}
 use Rattle.conda_repodata.specs.Reading.{if_read, if_unread, records_of, repodata_of, repodata_read, repodata_with, section_field, section_read, unread_of}
 use Rattle.conda_repodata.specs.Rules.{Entry, IsEntry, IsRepodata, IsTaken, IsUnread}
