@@ -1,5 +1,5 @@
 ghost use Rattle.std.specs.Prelude.{◌≡◌, ◌+◌, ◌-◌, ◌^◌, ◌≤◌, min};
-ghost use Rattle.conda_dev.specs.Fault.{Rose};
+ghost use Rattle.conda_device.specs.Fault.{Rose};
 
 /// A count of faults. It stands still at the last value of its type.
 #[derive(Debug, Drop)]

@@ -1,9 +1,9 @@
-ghost use Rattle.std.specs.Prelude.{◌≡◌, ◌≤◌, false, length, map, All, IfOk, OnOk, OnErr};
-ghost use Rattle.conda_dev.specs.Fault.{HasDeviceCause};
-ghost use Rattle.conda_dev.specs.Hosts.{CanTakeBack, HostState, IsLentToo, SameOfAll};
-ghost use Rattle.conda_dev.specs.Hosts.{SameOfOthers, TakesBack};
-ghost use Rattle.conda_dev.specs.Lanes.{AreNew};
-ghost use Rattle.conda_dev.specs.Tree.{together};
+ghost use Rattle.std.specs.Prelude.{◌≡◌, ◌≤◌, false, map, IfOk, OnOk, OnErr};
+ghost use Rattle.conda_device.specs.Fault.{HasDeviceCause};
+ghost use Rattle.conda_device.specs.Hosts.{CanTakeBack, HostState, IsLentToo, KeepsHandles};
+ghost use Rattle.conda_device.specs.Hosts.{SameOfAll, SameOfOthers, TakesBack};
+ghost use Rattle.conda_device.specs.Lanes.{AreNew};
+ghost use Rattle.conda_device.specs.Tree.{together};
 
 use crate::fault::DeviceErr;
 use crate::lane::Lane;
@@ -35,7 +35,7 @@ pub trait Host {
         requires free { (state self.old).lent prefix.now ≡ false }
 
         ensures lanes { IfOk result (λ lanes.
-            AreNew Self.Lane.number Self.Lane.lanes Self.Lane.faults n lanes.items) }
+            AreNew Self.Lane.share Self.Lane.faults n lanes.items) }
         ensures tree { IfOk result (λ lanes.
             together (map Self.Lane.told lanes.items) ≡ (state self.old).told prefix.now) }
         ensures lent { OnOk result
@@ -47,12 +47,12 @@ pub trait Host {
         ensures err_lent { OnErr result (SameOfAll (state self.old).lent (state self.new).lent) }
 
         ensures cause { HasDeviceCause (state self.old).faults (state self.new).faults result }
-        ensures lane_faults { (state self.new).lane_faults ≡ (state self.old).lane_faults };
+        ensures lane_faults { (state self.new).lane_faults ≡ (state self.old).lane_faults }
+        ensures handles { KeepsHandles (state self.old) (state self.new) };
 
     /// Takes a prefix back with all its lanes. It takes no memory.
     fn take_back(&mut self, prefix: &Prefix, lanes: Vec<Self::Lane>)
-        requires { CanTakeBack Self.Lane.number Self.Lane.lanes prefix.now lanes.items
-            (state self.old) }
+        requires { CanTakeBack Self.Lane.share prefix.now lanes.items (state self.old) }
         ensures { TakesBack Self.Lane.told Self.Lane.faults prefix.now lanes.items
             (state self.old) (state self.new) };
 }
