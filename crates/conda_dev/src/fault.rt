@@ -1,5 +1,5 @@
-ghost use Rattle.std.specs.Prelude.{◌≡◌, IfOk};
-ghost use Rattle.conda_dev.specs.Plan.{is_lane, plan_of, same_target};
+ghost use Rattle.std.specs.Prelude.{◌≡◌, ◌++◌, IfOk, OnOk};
+ghost use Rattle.conda_dev.specs.Plan.{is_lane, plan_of, same_target, stops_of};
 
 use conda_base::Copied;
 use conda_path::Prefix;
@@ -32,11 +32,13 @@ pub struct FailAt {
     pub effect: Effect,
 }
 
-/// A call of one memory form that is to fail.
+/// A call of one memory form that is to fail, and where it goes on, each later one before its
+/// effect.
 #[derive(Clone, Copy, Debug, PartialEq, Eq)]
 pub struct Planned {
     pub call: u64,
     pub effect: Effect,
+    pub onward: bool,
 }
 
 impl Copied for Effect {
@@ -77,10 +79,32 @@ pub fn plan_for(
             plan.push(Planned {
                 call: fail.call,
                 effect: fail.effect,
+                onward: false,
             })?;
         }
     }
     Ok(plan)
+}
+
+/// Adds the calls of a target from which on all are to fail.
+pub fn add_stops(
+    plan: &mut Vec<Planned>,
+    stops: &[FailAt],
+    target: &Target,
+) -> Result<(), AllocError>
+    ensures { OnOk result
+        (plan.new.items ≡ plan.old.items ++ stops_of (same_target target.now) stops.now) }
+{
+    for stop in stops {
+        if is_same(target, &stop.on) {
+            plan.push(Planned {
+                call: stop.call,
+                effect: stop.effect,
+                onward: true,
+            })?;
+        }
+    }
+    Ok(())
 }
 
 fn is_lane_with(number: u32, on: &Target) -> bool
@@ -106,6 +130,7 @@ pub fn plan_for_lane(
             plan.push(Planned {
                 call: fail.call,
                 effect: fail.effect,
+                onward: false,
             })?;
         }
     }

@@ -40,16 +40,14 @@ impl In for MemIn {
     fn take(&mut self, alloc: Global, max: usize) -> Result<Vec<u8>, DeviceErr> {
         let effect = self.meter.next();
         if effect == Some(Effect::Before) {
-            self.meter.faults.raise();
-            return Err(DeviceErr::Failed);
+            return Err(DeviceErr::from(self.meter.fail()));
         }
         let rest = rest_of(&self.bytes, self.at);
         let count = rest.len().min(max);
         let taken = Vec::from_slice(alloc, &rest[..count])?;
         self.at += count;
         if effect == Some(Effect::After) {
-            self.meter.faults.raise();
-            return Err(DeviceErr::Failed);
+            return Err(DeviceErr::from(self.meter.fail()));
         }
         Ok(taken)
     }
@@ -102,13 +100,8 @@ impl Out for MemOut {
     fn put(&mut self, bytes: &[u8]) -> Result<(), Failed> {
         let effect = self.meter.next();
         if effect == Some(Effect::Before) || self.bytes.extend_from_slice(bytes).is_err() {
-            self.meter.faults.raise();
-            return Err(Failed);
+            return Err(self.meter.fail());
         }
-        if effect == Some(Effect::After) {
-            self.meter.faults.raise();
-            return Err(Failed);
-        }
-        Ok(())
+        self.meter.end(effect)
     }
 }

@@ -132,6 +132,15 @@ pub trait Lane: Send + Drop {
     ghost inside: { (lane : Self) → LiesInShare (told lane) (share lane) };
 }
 
+impl Abilities {
+    /// It can do all of them.
+    pub const ALL: Abilities = Abilities {
+        hard: true,
+        soft: true,
+        exec: true,
+    };
+}
+
 impl Copied for Abilities {
     fn copy(&self) -> Result<Abilities, AllocError> {
         Ok(*self)

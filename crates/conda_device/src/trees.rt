@@ -1,11 +1,12 @@
-ghost use Rattle.std.specs.Prelude.{◌≡◌, ℕ, List, Some, None, IsSome, if◌then◌else◌};
+ghost use Rattle.std.specs.Prelude.{◌≡◌, ℕ, All, List, Some, None, IsSome, if◌then◌else◌};
 ghost use Rattle.std.specs.FinMap as map;
 ghost use Rattle.std.specs.Str.{bytes_eq};
+ghost use Rattle.conda_base.specs.Texts.{Ascending};
 ghost use Rattle.conda_path.specs.declared.values.Node.{Node};
 ghost use Rattle.conda_device.specs.Tree.{Tree, move};
 
 /// What stands at each path of a tree in which a node was put, erased or moved. Trees that have the
-/// same at each path are one.
+/// same at each path are one. The paths of a tree ascend by bytes.
 pub fn tree_laws()
     ensures put { (tree : Tree) (path other : List ℕ) (node : Node) →
         map.get (map.insert tree path node) other
@@ -19,4 +20,6 @@ pub fn tree_laws()
         else (if bytes_eq other from then None else map.get tree other)) }
     ensures same { (one other : Tree) →
         ((path : List ℕ) → map.get one path ≡ map.get other path) → one ≡ other }
+    ensures ascending { (tree : Tree) → Ascending (map.keys tree) }
+    ensures keys { (tree : Tree) → All (λ path. IsSome (map.get tree path)) (map.keys tree) }
 {}
