@@ -29,7 +29,7 @@ impl MemLane {
     ghost use Rattle.std.specs.Prelude.{◌≡◌, ℕ, List, IsSome, Some, IfOk, OnErr, OnOk};
     ghost use Rattle.std.specs.FinMap as map;
     ghost use Rattle.conda_device.specs.Fault.{BeforeOrAsked, HasCause};
-    ghost use Rattle.conda_device.specs.Lanes.{IsInShare};
+    ghost use Rattle.conda_device.specs.Lanes.{IsInShare, can_all};
     ghost use Rattle.conda_device.specs.Tree.{with_node};
     ghost use Rattle.conda_dev.specs.Memory.{IsSound};
     ghost use Rattle.conda_path.specs.Lanes.{lane_number};
@@ -45,7 +45,7 @@ impl MemLane {
         requires { (path : List ℕ) → IsSome (map.get tree path) → lane_number path lanes ≡ number }
         ensures tree { IfOk result (λ lane. ⟦<MemLane as Lane>⟧.told lane ≡ Some tree) }
         ensures share { IfOk result (λ lane. ⟦<MemLane as Lane>⟧.share lane
-            ≡ record { number = number; lanes = lanes; abilities = Abilities.ALL }) }
+            ≡ record { number = number; lanes = lanes; abilities = can_all }) }
         ensures unharmed { IfOk result (λ lane. ⟦<MemLane as Lane>⟧.faults lane ≡ 0) }
     {
         let plan = plan_for_lane(alloc, &fails, number)?;

@@ -1,5 +1,5 @@
 -- Lanes, and lists of them. This project's own.
-use Rattle.std.specs.Prelude.{◌≡◌, ℕ, zero, suc, ◌+◌, List, [], ◌∷◌, ◌++◌, map, length, replicate, get_or, slice_set, All, Option, IfSome, IsSome, refl}
+use Rattle.std.specs.Prelude.{◌≡◌, ℕ, true, zero, suc, ◌+◌, List, [], ◌∷◌, ◌++◌, map, length, replicate, get_or, slice_set, All, Option, IfSome, IsSome, refl}
 use Rattle.std.specs.List.{range_with_len}
 use Rattle.std.specs.FinMap as trees
 use Rattle.std.proofs.Common.{zero-add, ap, sym, ◌∙◌}
@@ -15,6 +15,10 @@ pub record Share : Type 0 where
   pub number : ℕ
   pub lanes : ℕ
   pub abilities : Abilities
+
+-- it can do all
+abbrev pub can_all : Abilities
+can_all = record { hard = true; soft = true; exec = true }
 
 -- the path's lane, of so many, is this one
 abbrev pub IsInShare : Share → List ℕ → Type 0
