@@ -7,8 +7,7 @@ ghost use Rattle.conda_path.specs.Lanes.{lane_number};
 use crate::fault::{Effect, FailAt, plan_for_lane};
 use crate::meter::Meter;
 use crate::tree::Tree;
-use conda_base::Bytes;
-use conda_base::Copied;
+use conda_base::{Bytes, Copied};
 use conda_device::{Abilities, DeviceErr, Failed, Lane, Seen};
 use conda_path::{Node, RelPath, StorePath};
 use std::alloc::{AllocError, Global};
@@ -56,6 +55,13 @@ impl MemLane {
             tree,
             meter: Meter::new(0, plan),
         })
+    }
+
+    /// Its tree. It takes no memory.
+    pub fn tree(&self) -> &Tree
+        ensures { ⟦<MemLane as Lane>⟧.told self.now ≡ Some result.now }
+    {
+        &self.tree
     }
 
     /// Ends all failing. Its tree and its count stay. It takes no memory.
@@ -122,6 +128,14 @@ fn put_copy(tree: &mut Tree, path: &RelPath, node: &Node) -> Result<(), AllocErr
 }
 
 impl Lane for MemLane {
+    ghost use Rattle.std.specs.Prelude.{◌≡◌, Some, IfOk, IfSome, OnErr, OnOk, option_map};
+    ghost use Rattle.std.specs.FinMap as map;
+    ghost use Rattle.conda_device.specs.Fault.{BeforeOrAsked, HasCause};
+    ghost use Rattle.conda_device.specs.Lanes.{IsInShare};
+    ghost use Rattle.conda_device.specs.Seen.{seen_of};
+    ghost use Rattle.conda_device.specs.Tree.{without};
+    ghost use Rattle.conda_dev.specs.Memory.{FailsAsPlanned};
+
     ghost share = { λ lane. record {
       number = lane.number;
       lanes = lane.lanes;
@@ -147,7 +161,16 @@ impl Lane for MemLane {
         Ok(self.tree.paths(alloc)?)
     }
 
-    fn look(&mut self, path: &RelPath) -> Result<Option<Seen>, Failed> {
+    fn look(&mut self, path: &RelPath) -> Result<Option<Seen>, Failed>
+        requires { IsInShare (⟦<MemLane as Lane>⟧.share self.old) path.now }
+        ensures seen { IfOk result (λ seen. IfSome (⟦<MemLane as Lane>⟧.told self.old)
+            (λ tree. seen ≡ option_map seen_of (map.get tree path.now))) }
+        ensures planned { FailsAsPlanned self.old result }
+        ensures cause { HasCause (⟦<MemLane as Lane>⟧.faults self.old)
+            (⟦<MemLane as Lane>⟧.faults self.new) result }
+        ensures tree { ⟦<MemLane as Lane>⟧.told self.new ≡ ⟦<MemLane as Lane>⟧.told self.old }
+        ensures share { ⟦<MemLane as Lane>⟧.share self.new ≡ ⟦<MemLane as Lane>⟧.share self.old }
+    {
         if self.meter.next().is_some() {
             return Err(self.meter.fail());
         }
@@ -186,7 +209,18 @@ impl Lane for MemLane {
         }
     }
 
-    fn erase(&mut self, path: &RelPath) -> Result<(), Failed> {
+    fn erase(&mut self, path: &RelPath) -> Result<(), Failed>
+        requires { IsInShare (⟦<MemLane as Lane>⟧.share self.old) path.now }
+        ensures ok { OnOk result (⟦<MemLane as Lane>⟧.told self.new
+            ≡ without (⟦<MemLane as Lane>⟧.told self.old) path.now) }
+        ensures err { OnErr result (BeforeOrAsked (⟦<MemLane as Lane>⟧.told self.old)
+            (without (⟦<MemLane as Lane>⟧.told self.old) path.now)
+            (⟦<MemLane as Lane>⟧.told self.new)) }
+        ensures planned { FailsAsPlanned self.old result }
+        ensures cause { HasCause (⟦<MemLane as Lane>⟧.faults self.old)
+            (⟦<MemLane as Lane>⟧.faults self.new) result }
+        ensures share { ⟦<MemLane as Lane>⟧.share self.new ≡ ⟦<MemLane as Lane>⟧.share self.old }
+    {
         let effect = self.meter.next();
         if effect == Some(Effect::Before) {
             return Err(self.meter.fail());

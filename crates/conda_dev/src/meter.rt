@@ -1,4 +1,4 @@
-ghost use Rattle.std.specs.Prelude.{◌≡◌, ◌≤◌, IfErr, IfOk, IsSome, None};
+ghost use Rattle.std.specs.Prelude.{◌≡◌, ◌≤◌, IsSome, OnErr};
 ghost use Rattle.conda_device.specs.Fault.{HasCause, Rose};
 ghost use Rattle.conda_dev.specs.Plan as plan;
 ghost use Rattle.conda_dev.specs.Plan.{effect_at, next_call};
@@ -52,7 +52,7 @@ impl Meter {
     /// Ends a call that had its effect.
     pub fn end(&mut self, effect: Option<Effect>) -> Result<(), Failed>
         ensures cause { HasCause self.old.faults.count self.new.faults.count result }
-        ensures planned { IfErr result (λ _. IsSome effect) }
+        ensures planned { OnErr result (IsSome effect) }
     {
         match effect {
             Some(_) => Err(self.fail()),

@@ -1,11 +1,12 @@
 -- Lanes, and lists of them. This project's own.
-use Rattle.std.specs.Prelude.{◌≡◌, ℕ, true, zero, suc, ◌+◌, List, [], ◌∷◌, ◌++◌, map, length, replicate, get_or, slice_set, All, Option, IfSome, IsSome, refl}
+use Rattle.std.specs.Prelude.{◌≡◌, ◌<◌, ℕ, true, ◌+◌, List, [], ◌∷◌, ◌++◌, map, length, replicate, get_or, slice_set, All, Option, IfSome, IsSome, refl}
 use Rattle.std.specs.List.{range_with_len}
 use Rattle.std.specs.FinMap as trees
 use Rattle.std.proofs.Common.{zero-add, ap, sym, ◌∙◌}
-use Rattle.std.proofs.lemmas.List.{map-append, length-map, length-set, replicate-append-replicate}
+use Rattle.std.proofs.Math.Seq.{map-set_same}
+use Rattle.std.proofs.lemmas.List.{get_or-map, get_or-replicate, map-append, length-map, length-set, replicate-append-replicate}
 use Rattle.std.proofs.lemmas.List.Elements.{All-append, All-cons, All-nil}
-use Rattle.std.proofs.lemmas.List.FromFn.{length-range_with_len, map-range_with_len_more}
+use Rattle.std.proofs.lemmas.List.FromFn.{get_or-range_with_len, length-range_with_len, map-range_with_len_more}
 use Rattle.conda_path.specs.Lanes.{lane_number}
 use Rattle.conda_device.specs.declared.lane.Abilities.{Abilities}
 use Rattle.conda_device.specs.Tree.{Tree}
@@ -90,16 +91,10 @@ module _ {L : Type 0} (share_of : L → Share) (faults_of : L → ℕ) where
 
 -- ---- laws, for what calls one of several lanes
 
--- a write of an element that has what the one before had
-map_set : {L A : Type 0} (f : L → A) (all : List L) (i : ℕ) (d next : L) → f next ≡ f (get_or all i d) → map f (slice_set all i next) ≡ map f all
-map_set f [] i d next same = refl
-map_set f (x ∷ xs) zero d next same = ap (λ y. y ∷ map f xs) same
-map_set f (x ∷ xs) (suc n) d next same = ap (λ ys. f x ∷ ys) (map_set f xs n d next same)
-
--- the same where the element was taken out of the list, as `lanes[i].look(path)` does
+-- what each has stays where a call left one of them what it had, as `lanes[i].look(path)` does
 pub map_write : {L A : Type 0} (f : L → A) (all : List L) (i : ℕ) (lane next : L) → f next ≡ f lane → lane ≡ get_or all i lane
     → map f (slice_set all i next) ≡ map f all
-map_write f all i lane next same is = map_set f all i lane next (same ∙ ap f is)
+map_write f all i lane next same is = map-set_same f all i next lane (same ∙ ap f is)
 
 -- each lane stands at the place of its number after a call of one of them
 pub still_placed : {L : Type 0} (share_of : L → Share) (all : List L) (i : ℕ) (lane next : L) → InPlace share_of all
@@ -111,3 +106,20 @@ still_placed share_of all i lane next placed is its_share =
           map_write (λ l. (share_of l).number) all i lane next (ap (λ s. s.number) its_share) is ∙ placed.numbers ∙ ap (range_with_len 0) (sym len);
       counts = map_write (λ l. (share_of l).lanes) all i lane next (ap (λ s. s.lanes) its_share) is ∙ placed.counts ∙ ap (λ n. replicate n n) (sym len);
     }
+
+module _ {L : Type 0} (share_of : L → Share) (all : List L) (i : ℕ) (d : L) (placed : InPlace share_of all) (below : i < length all) where
+  -- the lane at a place has its number
+  pub placed_number : (share_of (get_or all i d)).number ≡ i
+  placed_number =
+      sym (get_or-map (λ l. (share_of l).number) all i d 0 below) ∙ ap (λ xs. get_or xs i 0) placed.numbers
+      ∙ get_or-range_with_len 0 (length all) i 0 below ∙ zero-add i
+
+  -- and knows how many they are
+  pub placed_lanes : (share_of (get_or all i d)).lanes ≡ length all
+  placed_lanes =
+      sym (get_or-map (λ l. (share_of l).lanes) all i d 0 below) ∙ ap (λ xs. get_or xs i 0) placed.counts
+      ∙ get_or-replicate (length all) i (length all) 0 below
+
+  -- so a path of that lane lies in its share
+  pub placed_share : (path : List ℕ) → lane_number path (length all) ≡ i → IsInShare (share_of (get_or all i d)) path
+  placed_share path is = ap (lane_number path) placed_lanes ∙ is ∙ sym placed_number

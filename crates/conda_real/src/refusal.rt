@@ -50,6 +50,6 @@ pub fn done<T: Drop>(called: io::Result<T>, faults: &mut FaultCount) -> Result<T
 {
     match called {
         Ok(value) => Ok(value),
-        Err(_) => Err(refused(faults)),
+        Err(_refusal) => Err(refused(faults)),
     }
 }
