@@ -51,7 +51,8 @@ fn put<R: Files + AllocGlobal + Clone + Send + Drop>(
 ) -> Result<&'static str, AllocError>
     requires number { lane.old.share.number ≡ 0 }
     requires lanes { lane.old.share.lanes ≡ 1 }
-    ensures { lane.new.share ≡ lane.old.share }
+    ensures number { lane.new.share.number ≡ 0 }
+    ensures lanes { lane.new.share.lanes ≡ 1 }
 {
     let Some((path, node)) = node_of(alloc, rest)? else {
         return Ok("?");
@@ -75,7 +76,8 @@ fn shift<R: Files + AllocGlobal + Clone + Send + Drop>(
 ) -> &'static str
     requires number { lane.old.share.number ≡ 0 }
     requires lanes { lane.old.share.lanes ≡ 1 }
-    ensures { lane.new.share ≡ lane.old.share }
+    ensures number { lane.new.share.number ≡ 0 }
+    ensures lanes { lane.new.share.lanes ≡ 1 }
 {
     let Some((from, to)) = rest.split_once(' ') else {
         return "?";
@@ -93,7 +95,8 @@ fn read<R: Files + AllocGlobal + Clone + Send + Drop>(
 ) -> Result<String, AllocError>
     requires number { lane.old.share.number ≡ 0 }
     requires lanes { lane.old.share.lanes ≡ 1 }
-    ensures { lane.new.share ≡ lane.old.share }
+    ensures number { lane.new.share.number ≡ 0 }
+    ensures lanes { lane.new.share.lanes ≡ 1 }
 {
     let Some((path, max)) = rest.split_once(' ') else {
         return String::from_str(alloc, "?");
@@ -112,7 +115,8 @@ fn answer_of<R: Files + AllocGlobal + Clone + Send + Drop>(
 ) -> Result<String, AllocError>
     requires number { lane.old.share.number ≡ 0 }
     requires lanes { lane.old.share.lanes ≡ 1 }
-    ensures { lane.new.share ≡ lane.old.share }
+    ensures number { lane.new.share.number ≡ 0 }
+    ensures lanes { lane.new.share.lanes ≡ 1 }
 {
     let (verb, rest) = match call.split_once(' ') {
         Some(cut) => cut,
@@ -154,7 +158,8 @@ fn clear<R: Files + AllocGlobal + Clone + Send + Drop>(
 ) -> &'static str
     requires number { lane.old.share.number ≡ 0 }
     requires lanes { lane.old.share.lanes ≡ 1 }
-    ensures { lane.new.share ≡ lane.old.share }
+    ensures number { lane.new.share.number ≡ 0 }
+    ensures lanes { lane.new.share.lanes ≡ 1 }
 {
     let Ok(paths) = lane.paths(alloc) else {
         return "failed";
@@ -172,7 +177,10 @@ fn counted<R: Files + AllocGlobal + Clone + Send + Drop>(
     alloc: Global,
     lane: &mut RealLane<R>,
 ) -> Result<String, AllocError>
-    ensures { lane.new.share ≡ lane.old.share }
+    requires number { lane.old.share.number ≡ 0 }
+    requires lanes { lane.old.share.lanes ≡ 1 }
+    ensures number { lane.new.share.number ≡ 0 }
+    ensures lanes { lane.new.share.lanes ≡ 1 }
 {
     match lane.paths(alloc) {
         Ok(paths) => {
@@ -191,7 +199,8 @@ fn many<R: Files + AllocGlobal + Clone + Send + Drop>(
 ) -> Result<&'static str, AllocError>
     requires number { lane.old.share.number ≡ 0 }
     requires lanes { lane.old.share.lanes ≡ 1 }
-    ensures { lane.new.share ≡ lane.old.share }
+    ensures number { lane.new.share.number ≡ 0 }
+    ensures lanes { lane.new.share.lanes ≡ 1 }
 {
     let Ok(count) = rest.parse::<u32>() else {
         return Ok("?");

@@ -7,17 +7,16 @@ mod setting;
 use conda_base::Text;
 use rows_text::{Table, print_rows};
 use std::alloc::{AllocError, Global};
-use std::io;
-use std::rt::{Env, Files};
+use std::{env, io, process};
 
 /// A folder of its own for each row.
 #[derive(Drop)]
-struct Folders<R: Files + AllocGlobal + Clone + Send + Drop> {
-    rt: R,
+struct Folders {
+    rt: HostRuntime,
     top: Text,
 }
 
-impl<R: Files + AllocGlobal + Clone + Send + Drop> Table for Folders<R> {
+impl Table for Folders {
     fn answer(
         &self,
         alloc: Global,
@@ -38,8 +37,8 @@ impl<R: Files + AllocGlobal + Clone + Send + Drop> Table for Folders<R> {
 }
 
 fn main(rt: HostRuntime) -> io::Result<()> {
-    let temp = std::env::temp_dir(&rt)?;
-    let number = std::process::id(rt.process());
+    let temp = env::temp_dir(&rt)?;
+    let number = process::id(rt.process());
     let temp = temp.as_str();
     let top = Text::from_string(format!(in rt.alloc(); "{temp}/conda-rows-{number}")?);
     let folders = Folders {
