@@ -42,7 +42,7 @@ fn machine(
     root: &str,
 ) -> Result<(RealHost<HostRuntime>, RealClock<HostRuntime>), AllocError>
     ensures { IfOk result (λ made.
-        IsNew (λ _. None) (⟦<RealHost<HostRuntime> as Host>⟧.state made.0)) }
+        IsNew (λ _. None) (λ _ _. None) (⟦<RealHost<HostRuntime> as Host>⟧.state made.0)) }
 {
     let host = RealHost::make(rt.clone()?, rt.alloc(), root)?;
     Ok((host, RealClock::make(rt.clone()?)))

@@ -6,8 +6,8 @@ use Rattle.std.specs.Ordering.{nat_cmp}
 use Rattle.std.specs.Cmp.Lexicographic.{slice_cmp}
 use Rattle.std.specs.List.Sorted.{IsStrictlySortedBy}
 use Rattle.conda_dev.specs.Fault.{Rose}
-use Rattle.conda_dev.specs.declared.fault.DeviceErr.{DeviceErr}
-use Rattle.conda_dev.specs.declared.fault.DeviceErr.TheVariants as lane
+use Rattle.conda_device.specs.declared.fault.DeviceErr.{DeviceErr}
+use Rattle.conda_device.specs.declared.fault.DeviceErr.TheVariants as lane
 use Rattle.conda_dev.specs.Hosts.{HostState}
 use Rattle.conda_dev.specs.Streams.{OutState, appended}
 use Rattle.conda_dev.specs.Tree.{Tree}

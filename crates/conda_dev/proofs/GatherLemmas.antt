@@ -9,9 +9,10 @@ use Rattle.std.proofs.lemmas.Map.Lookups.{exact_bytes}
 use Rattle.conda_path.specs.declared.values.Node.{Node}
 use Rattle.conda_path.specs.Lanes.{lane_number}
 use Rattle.conda_dev.specs.declared.mem_lane.MemLane.{MemLane}
-use Rattle.conda_dev.specs.Tree.{Tree, first_of, in_share, joined, together}
-use Rattle.conda_dev.specs.Lanes.{AreNew, LinesUp, no_lanes, one_more_lane, all_lanes}
-use Rattle.conda_dev.specs.Memory.{faults_of, lanes_of, node_at, number_of, told_of, trees_of}
+use Rattle.conda_device.specs.Tree.{Tree, joined, together}
+use Rattle.conda_dev.specs.Shares.{first_of, in_share}
+use Rattle.conda_device.specs.Lanes.{AreNew, LinesUp, no_lanes, one_more_lane, all_lanes}
+use Rattle.conda_dev.specs.Memory.{faults_of, node_at, share_of, told_of, trees_of}
 
 first_none : (found : Option Node) → first_of found None ≡ found
 first_none None = refl
@@ -64,7 +65,7 @@ all_below l n h = grind (arith, nat_tests)
 -- ---- lanes that are lent one after another
 
 abbrev pub IsLinedUp : ℕ → ℕ → List MemLane → Type 0
-IsLinedUp = LinesUp number_of lanes_of faults_of
+IsLinedUp = LinesUp share_of faults_of
 
 pub record SoFar (number lanes : ℕ) (from made : List MemLane) : Type 0 where
   pub lined : IsLinedUp number lanes made
@@ -72,7 +73,7 @@ pub record SoFar (number lanes : ℕ) (from made : List MemLane) : Type 0 where
 
 pub begins : (lanes : ℕ) (from : List MemLane) → SoFar 0 lanes from []
 begins lanes from = record {
-  lined = no_lanes number_of lanes_of faults_of lanes;
+  lined = no_lanes share_of faults_of lanes;
   nodes = λ q. sym (ap (λ b. cond b (node_at (trees_of from) q) None) (none_below (lane_number q lanes)));
 }
 
@@ -81,7 +82,7 @@ pub goes_on : (number lanes : ℕ) (from made : List MemLane) (lane : MemLane) �
     → ((q : List ℕ) → trees.get lane.tree q ≡ in_share number lanes q (node_at (trees_of from) q))
     → SoFar (number + 1) lanes from (made ++ lane ∷ [])
 goes_on number lanes from made lane far its_number its_lanes its_faults its_nodes = record {
-  lined = one_more_lane number_of lanes_of faults_of number lanes made lane far.lined its_number its_lanes its_faults;
+  lined = one_more_lane share_of faults_of number lanes made lane far.lined its_number its_lanes its_faults;
   nodes = λ q.
       ap (λ ts. node_at ts q) (map-append (λ (l : MemLane). l.tree) made (lane ∷ [])) ∙ node_at-append (trees_of made) (lane.tree ∷ []) q
       ∙ ap (λ o. first_of o (first_of (trees.get lane.tree q) None)) (far.nodes q)
@@ -129,10 +130,10 @@ told_of-trees [] = refl
 told_of-trees (lane ∷ lanes) = ap (λ rest. Some lane.tree ∷ rest) (told_of-trees lanes)
 
 pub ended : (lanes : ℕ) (from made : List MemLane) → 1 ≤ lanes → SoFar lanes lanes from made
-    → AreNew number_of lanes_of faults_of lanes made × (together (told_of made) ≡ together (told_of from))
+    → AreNew share_of faults_of lanes made × (together (told_of made) ≡ together (told_of from))
 ended lanes from made some far =
     let inside = λ (q : List ℕ). ap (λ b. cond b (node_at (trees_of from) q) None) (all_below (lane_number q lanes) lanes (omega arith)) in (
-      all_lanes number_of lanes_of faults_of lanes made far.lined,
+      all_lanes share_of faults_of lanes made far.lined,
       ap together (told_of-trees made) ∙ same_together (trees_of made) (trees_of from) (λ q. far.nodes q ∙ inside q) ∙ ap together (sym (told_of-trees from)),
     )
 

@@ -1,3 +1,4 @@
 pub mod TreeLemmas
 pub mod GatherLemmas
 pub mod PlaceLemmas
+pub mod ShareLemmas

@@ -5,8 +5,8 @@ use Rattle.std.specs.Cmp.Lexicographic.{slice_cmp}
 use Rattle.std.specs.BTreeMap.{is_at}
 use Rattle.std.specs.FinMap as trees
 use Rattle.conda_dev.specs.declared.place.Place.{Place}
-use Rattle.conda_dev.specs.Keys.{same_test}
-use Rattle.conda_dev.specs.Tree.{Tree, together}
+use Rattle.conda_device.specs.Keys.{same_test}
+use Rattle.conda_device.specs.Tree.{Tree, together}
 use Rattle.conda_dev.specs.Memory.{given, lent_in, place_at, told_in, told_of}
 use Rattle.conda_dev.proofs.TreeLemmas.{keyed}
 

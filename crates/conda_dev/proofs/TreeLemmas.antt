@@ -1,15 +1,23 @@
 -- The tree that the entries of a `BTreeMap` make.
-use Rattle.std.proofs.Common.{◌≡◌, ◌==◌, ℕ, List, [], ◌∷◌, Bool, true, false, true≢false, cond, Option, Some, None, is_some, refl, ap, sym, ◌∙◌}
-use Rattle.std.specs.Ordering.{nat_cmp}
+use Rattle.std.proofs.Common.{◌≡◌, ◌≢◌, ◌==◌, ◌&&◌, T, ℕ, List, [], ◌∷◌, Bool, true, false, true≢false, cond, Option, Some, None, is_some, refl, ap, subst, sym, ◌∙◌}
+use Rattle.std.specs.Ordering.{is_lt, nat_cmp}
 use Rattle.std.specs.Cmp.{Equal-is, eq_by_cmp_equiv}
 use Rattle.std.specs.Cmp.Lexicographic.{slice_cmp, nat_list_cmp_total}
-use Rattle.std.specs.Map.{lookup}
+use Rattle.std.specs.List.{AllByRecursion}
+use Rattle.std.specs.List.Sorted.{IsStrictlySortedBy}
+use Rattle.std.specs.Map.{keys_of, lookup}
+use Rattle.std.specs.Str.{bytes_eq}
+use Rattle.std.proofs.lemmas.Slice.Eq.{bytes_eq-Decides}
+use Rattle.std.specs.declared.cmp.Ordering.{Ordering}
+use Rattle.conda_device.specs.Trees.{get_erased, get_moved, get_put, same_trees}
 use Rattle.std.specs.BTreeMap.{is_at}
 use Rattle.std.specs.FinMap as map
+use Rattle.std.specs.FinMap.Entries.{below_all}
 use Rattle.std.proofs.lemmas.Map.Lookups.{exact_bytes}
 use Rattle.conda_path.specs.declared.values.Node.{Node}
 use Rattle.conda_path.specs.Lanes.{lane_number}
-use Rattle.conda_dev.specs.Tree.{Tree, first_of, in_share}
+use Rattle.conda_device.specs.Tree.{Tree, move, with_found}
+use Rattle.conda_dev.specs.Shares.{first_of, in_share}
 
 abbrev pub Entries : Type 0
 Entries = List (List ℕ × Node)
@@ -88,3 +96,68 @@ share_none number lanes q (Some node) = refl
 pub none_of : (found : Option Node) → is_some found ≡ false → found ≡ None
 none_of None e = refl
 none_of (Some node) e = absurd (true≢false e)
+
+-- ---- what erases and moves
+
+both : (a b : Bool) → T a → T b → T (a && b)
+both true b h i = i
+both false b h i = absurd h
+
+-- entries that lack one path make the tree without it
+pub one_erased : (es fs : Entries) (p : List ℕ)
+    → ((q : List ℕ) → lookup (is_at (slice_cmp nat_cmp q)) fs ≡ cond (is_at (slice_cmp nat_cmp p) q) None (lookup (is_at (slice_cmp nat_cmp q)) es))
+    → tree_of fs ≡ map.remove (tree_of es) p
+one_erased es fs p h = map.same_map nat_list_cmp_total exact_bytes _ _ (λ q.
+    get_tree fs q ∙ h q ∙ ap (λ b. cond b None (lookup (is_at (slice_cmp nat_cmp q)) es)) ((eq_by_cmp_equiv nat_list_cmp_total).symm p q)
+    ∙ sym (map.get-remove nat_list_cmp_total (tree_of es) p q ∙ ap (cond (is_at (slice_cmp nat_cmp q) p) None) (get_tree es q)))
+
+unlike : (tree : Tree) (from to : List ℕ) (node : Node) → map.get tree from ≡ Some node → map.get tree to ≡ None → from ≢ to
+unlike tree from to node there free same = let e : Some node ≡ None = sym there ∙ ap (map.get tree) same ∙ free in cc
+
+either_of : (q from to : List ℕ) (node : Node) (rest : Option Node) → from ≢ to
+    → cond (bytes_eq q from) None (cond (bytes_eq q to) (Some node) rest) ≡ cond (bytes_eq q to) (Some node) (cond (bytes_eq q from) None rest)
+either_of q from to node rest apart =
+    elim (bytes_eq q from) as (λ a. bytes_eq q from ≡ a → cond a None (cond (bytes_eq q to) (Some node) rest) ≡ cond (bytes_eq q to) (Some node) (cond a None rest)) [
+      | true ↦ λ is.
+          elim (bytes_eq q to) as (λ b. bytes_eq q to ≡ b → None ≡ cond b (Some node) None) [
+            | true ↦ λ also. absurd (apart (sym ((bytes_eq-Decides q from).0 is) ∙ (bytes_eq-Decides q to).0 also))
+            | false ↦ λ _. refl
+          ] refl
+      | false ↦ λ _. refl
+    ] refl
+
+-- a node that is copied and then erased where it was is moved
+pub moved_copy : (tree : Tree) (from to : List ℕ) (node : Node) → map.get tree from ≡ Some node → map.get tree to ≡ None
+    → map.remove (map.insert tree to node) from ≡ move tree from to
+moved_copy tree from to node there free = same_trees _ _ (λ q.
+    get_erased (map.insert tree to node) from q ∙ ap (cond (bytes_eq q from) None) (get_put tree to q node)
+    ∙ either_of q from to node (map.get tree q) (unlike tree from to node there free)
+    ∙ sym (get_moved tree from to q (ap is_some there) ∙ ap (λ found. cond (bytes_eq q to) found (cond (bytes_eq q from) None (map.get tree q))) there))
+
+-- where no node is, none is moved
+pub moved_nothing : (tree : Tree) (from to : List ℕ) → map.get tree from ≡ None → tree ≡ move tree from to
+moved_nothing tree from to none =
+    same_trees tree (map.remove tree from) (λ q.
+    elim (bytes_eq q from) as (λ b. bytes_eq q from ≡ b → map.get tree q ≡ cond b None (map.get tree q)) [
+      | true ↦ λ is. ap (map.get tree) ((bytes_eq-Decides q from).0 is) ∙ none
+      | false ↦ λ _. refl
+    ] refl ∙ sym (get_erased tree from q))
+    ∙ ap (with_found (map.remove tree from) to) (sym none)
+
+-- ---- the paths of a map
+
+below_of : (k : List ℕ) (es : Entries) → AllByRecursion (λ q. slice_cmp nat_cmp k q ≡ Ordering.Less) (keys_of es) → T (below_all (slice_cmp nat_cmp) k es)
+below_of k [] h = tt
+below_of k (e ∷ es) h = both (is_lt (slice_cmp nat_cmp k e.0)) _ (subst (λ r. T (is_lt r)) (sym h.0) tt) (below_of k es h.1)
+
+sorted_of : (es : Entries) → IsStrictlySortedBy (slice_cmp nat_cmp) (keys_of es) → T (map.is_sorted (slice_cmp nat_cmp) es)
+unfolding IsStrictlySortedBy
+sorted_of [] h = tt
+sorted_of (e ∷ es) h = both (below_all (slice_cmp nat_cmp) e.0 es) _ (below_of e.0 es h.0) (sorted_of es h.1)
+
+-- entries in order are those of the tree that they make
+pub keys_tree : (es : Entries) → IsStrictlySortedBy (slice_cmp nat_cmp) (keys_of es) → map.keys (tree_of es) ≡ keys_of es
+keys_tree es h =
+    let sorted = sorted_of es h in
+    ap (λ tree. map.keys tree) (map.same_map nat_list_cmp_total exact_bytes (tree_of es) (map.from_sorted es) (λ q. map.get-from_entries nat_list_cmp_total es q ∙ sym (map.get-from_sorted (slice_cmp nat_cmp) es q sorted)))
+    ∙ ap keys_of (map.entries-from_sorted (slice_cmp nat_cmp) es sorted)

@@ -1,5 +1,5 @@
 -- What the host in memory has of a prefix. This project's own.
-use Rattle.std.specs.Prelude.{ℕ, Bool, false, List, [], ◌∷◌, map, Option, Some, None, if◌then◌else◌}
+use Rattle.std.specs.Prelude.{◌≡◌, ℕ, Bool, false, List, [], ◌∷◌, map, Option, Some, None, IsSome, Result, OnErr, if◌then◌else◌}
 use Rattle.std.specs.Ordering.{nat_cmp}
 use Rattle.std.specs.Cmp.Lexicographic.{slice_cmp}
 use Rattle.std.specs.Map.{lookup}
@@ -7,23 +7,37 @@ use Rattle.std.specs.BTreeMap.{is_at}
 use Rattle.std.specs.Str.{bytes_eq}
 use Rattle.std.specs.FinMap as trees
 use Rattle.conda_path.specs.declared.values.Node.{Node}
+use Rattle.conda_device.specs.declared.fault.Failed.{Failed}
+use Rattle.conda_dev.specs.declared.fault.Effect.{Effect}
 use Rattle.conda_dev.specs.declared.mem_lane.MemLane.{MemLane}
 use Rattle.conda_dev.specs.declared.place.Place.{Place}
-use Rattle.conda_dev.specs.Tree.{Tree, first_of, together}
+use Rattle.conda_device.specs.Lanes.{Share}
+use Rattle.conda_device.specs.Tree.{Tree, together}
+use Rattle.conda_dev.specs.Plan.{effect_at, next_call}
+use Rattle.conda_dev.specs.Shares.{first_of}
 
 -- the place of a prefix
 abbrev pub place_at : List (List ℕ × Place) → List ℕ → Option Place
 place_at places prefix = lookup (is_at (slice_cmp nat_cmp prefix)) places
 
 -- what lanes in memory tell of themselves
-abbrev pub number_of : MemLane → ℕ
-number_of lane = lane.number
-
-abbrev pub lanes_of : MemLane → ℕ
-lanes_of lane = lane.lanes
+abbrev pub share_of : MemLane → Share
+share_of lane = record { number = lane.number; lanes = lane.lanes; abilities = lane.abilities }
 
 abbrev pub faults_of : MemLane → ℕ
 faults_of lane = lane.meter.faults.count
+
+-- how the lane's next call is to fail, if it is
+abbrev pub next_effect : MemLane → Option Effect
+next_effect lane = effect_at lane.meter.planned.items (next_call lane.meter.calls)
+
+-- a call that takes no memory failed only where it was to
+abbrev pub FailsAsPlanned : {T : Type 0} → MemLane → Result T Failed → Type 0
+FailsAsPlanned lane result = OnErr result (IsSome (next_effect lane))
+
+-- none of the lane's calls is to fail
+abbrev pub IsSound : MemLane → Type 0
+IsSound lane = lane.meter.planned.items ≡ []
 
 -- the trees of lanes
 abbrev pub trees_of : List MemLane → List Tree

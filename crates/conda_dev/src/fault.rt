@@ -1,42 +1,9 @@
-ghost use Rattle.std.specs.Prelude.{◌≡◌, IfOk};
-ghost use Rattle.conda_dev.specs.Plan.{is_lane, plan_of, same_target};
+ghost use Rattle.std.specs.Prelude.{◌≡◌, ◌++◌, IfOk, OnOk};
+ghost use Rattle.conda_dev.specs.Plan.{is_lane, plan_of, same_target, stops_of};
 
 use conda_base::Copied;
 use conda_path::Prefix;
 use std::alloc::{AllocError, Global};
-
-/// The device failed. Its count of faults says so too.
-#[derive(Clone, Copy, Debug, PartialEq, Eq)]
-pub struct Failed;
-
-/// Why a call that hands out bytes or handles has no answer.
-#[derive(Clone, Copy, Debug, PartialEq, Eq)]
-pub enum DeviceErr {
-    /// The device failed. Its count of faults says so too.
-    Failed,
-    /// There was no memory for the answer. No count of faults rises.
-    Memory,
-}
-
-impl From<Failed> for DeviceErr {
-    ghost use Rattle.conda_dev.specs.declared.fault.DeviceErr.{DeviceErr};
-
-    ghost from_gives = { λ _ e. e ≡ DeviceErr.Failed };
-
-    fn from(_: Failed) -> DeviceErr {
-        DeviceErr::Failed
-    }
-}
-
-impl From<AllocError> for DeviceErr {
-    ghost use Rattle.conda_dev.specs.declared.fault.DeviceErr.{DeviceErr};
-
-    ghost from_gives = { λ _ e. e ≡ DeviceErr.Memory };
-
-    fn from(_: AllocError) -> DeviceErr {
-        DeviceErr::Memory
-    }
-}
 
 /// Whether a call that is to fail has its effect first.
 #[derive(Clone, Copy, Debug, PartialEq, Eq)]
@@ -65,11 +32,13 @@ pub struct FailAt {
     pub effect: Effect,
 }
 
-/// A call of one memory form that is to fail.
+/// A call of one memory form that is to fail, and where it goes on, each later one before its
+/// effect.
 #[derive(Clone, Copy, Debug, PartialEq, Eq)]
 pub struct Planned {
     pub call: u64,
     pub effect: Effect,
+    pub onward: bool,
 }
 
 impl Copied for Effect {
@@ -110,10 +79,32 @@ pub fn plan_for(
             plan.push(Planned {
                 call: fail.call,
                 effect: fail.effect,
+                onward: false,
             })?;
         }
     }
     Ok(plan)
+}
+
+/// Adds the calls of a target from which on all are to fail.
+pub fn add_stops(
+    plan: &mut Vec<Planned>,
+    stops: &[FailAt],
+    target: &Target,
+) -> Result<(), AllocError>
+    ensures { OnOk result
+        (plan.new.items ≡ plan.old.items ++ stops_of (same_target target.now) stops.now) }
+{
+    for stop in stops {
+        if is_same(target, &stop.on) {
+            plan.push(Planned {
+                call: stop.call,
+                effect: stop.effect,
+                onward: true,
+            })?;
+        }
+    }
+    Ok(())
 }
 
 fn is_lane_with(number: u32, on: &Target) -> bool
@@ -139,6 +130,7 @@ pub fn plan_for_lane(
             plan.push(Planned {
                 call: fail.call,
                 effect: fail.effect,
+                onward: false,
             })?;
         }
     }

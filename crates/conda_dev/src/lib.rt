@@ -1,12 +1,9 @@
-//! The devices that the program works on, as traits whose contracts say what each call does and
-//! when it may fail, and a form of each in memory that fails at given calls.
+//! The devices of conda_device, and a form of each in memory that fails at given calls.
 #![tactic(auto)]
 
 mod clock;
-mod count;
 mod fault;
-mod host;
-mod lane;
+mod lending;
 mod mem_host;
 mod mem_lane;
 mod meter;
@@ -14,12 +11,11 @@ mod place;
 mod streams;
 mod tree;
 
-pub use clock::{Clock, FixedClock};
-pub use count::FaultCount;
-pub use fault::{DeviceErr, Effect, FailAt, Failed, Target};
-pub use host::Host;
-pub use lane::{Lane, Seen};
+pub use clock::FixedClock;
+pub use conda_device::{Abilities, Clock, DeviceErr, Failed, FaultCount, Host, In, Lane, Out, Seen};
+pub use conda_device::tree_laws;
+pub use fault::{Effect, FailAt, Target};
 pub use mem_host::MemHost;
 pub use mem_lane::MemLane;
-pub use streams::{In, MemIn, MemOut, Out};
+pub use streams::{MemIn, MemOut};
 pub use tree::Tree;

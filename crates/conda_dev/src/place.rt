@@ -1,18 +1,20 @@
 ghost use Rattle.std.specs.Prelude.{◌+◌, ◌-◌, ◌^◌, min, sum_by};
 ghost use Rattle.std.specs.Prelude.{◌≡◌, ◌≤◌, ℕ, true, false, List, Some, IfOk, OnOk, OnErr};
 ghost use Rattle.std.specs.FinMap as tree;
-ghost use Rattle.conda_dev.specs.Hosts.{SameOfOthers};
-ghost use Rattle.conda_dev.specs.Lanes.{AreNew};
+ghost use Rattle.conda_device.specs.Hosts.{SameOfOthers};
+ghost use Rattle.conda_device.specs.Lanes.{AreNew};
 ghost use Rattle.conda_dev.specs.Memory.{given, lent_in, node_at, place_at, told_in, told_of};
-ghost use Rattle.conda_dev.specs.Memory.{faults_of, lanes_of, number_of, trees_of};
-ghost use Rattle.conda_dev.specs.Tree.{in_share, together};
+ghost use Rattle.conda_dev.specs.Memory.{faults_of, share_of, trees_of};
+ghost use Rattle.conda_device.specs.Tree.{together};
+ghost use Rattle.conda_dev.specs.Shares.{in_share};
 
-use crate::count::FaultCount;
-use crate::fault::{FailAt, Target, plan_for};
+use crate::fault::Target;
+use crate::lending::Lending;
 use crate::mem_lane::MemLane;
 use crate::meter::Meter;
 use crate::tree::{Tree, add_share};
 use conda_base::Copied;
+use conda_device::{Abilities, FaultCount};
 use conda_path::Prefix;
 use std::alloc::{AllocError, Global};
 use std::collections::BTreeMap;
@@ -53,14 +55,14 @@ fn lent_lane(
     alloc: Global,
     from: &[MemLane],
     calls: u64,
-    fails: &[FailAt],
+    lending: &Lending,
     prefix: &Prefix,
     number: u32,
     lanes: u32,
 ) -> Result<MemLane, AllocError>
     requires { 1 ≤ lanes }
-    ensures number { IfOk result (λ lane. lane.number ≡ number) }
-    ensures lanes { IfOk result (λ lane. lane.lanes ≡ lanes) }
+    ensures share { IfOk result (λ lane. share_of lane
+        ≡ record { number = number; lanes = lanes; abilities = lending.now.abilities }) }
     ensures unharmed { IfOk result (λ lane. lane.meter.faults.count ≡ 0) }
     ensures nodes { IfOk result (λ lane. (path : List ℕ) → tree.get lane.tree path
         ≡ in_share number lanes path (node_at (trees_of from.now) path)) }
@@ -70,10 +72,11 @@ fn lent_lane(
         prefix: prefix.copy()?,
         number,
     };
-    let planned = plan_for(alloc, fails, &target)?;
+    let planned = lending.plan(alloc, &target)?;
     Ok(MemLane {
         number,
         lanes,
+        abilities: lending.abilities,
         tree,
         meter: Meter::new(calls, planned),
     })
@@ -84,19 +87,19 @@ fn lent_lanes(
     alloc: Global,
     from: &[MemLane],
     calls: &[u64],
-    fails: &[FailAt],
+    lending: &Lending,
     prefix: &Prefix,
     lanes: u32,
 ) -> Result<Vec<MemLane>, AllocError>
     requires { 1 ≤ lanes }
-    ensures lanes { IfOk result (λ made. AreNew number_of lanes_of faults_of lanes made.items) }
+    ensures lanes { IfOk result (λ made. AreNew share_of faults_of lanes made.items) }
     ensures tree { IfOk result (λ made.
         together (told_of made.items) ≡ together (told_of from.now)) }
 {
     let mut made = Vec::new(alloc);
     for number in 0..lanes {
         let had = calls.get(number as usize).copied().unwrap_or(0);
-        made.push(lent_lane(alloc, from, had, fails, prefix, number, lanes)?)?;
+        made.push(lent_lane(alloc, from, had, lending, prefix, number, lanes)?)?;
     }
     Ok(made)
 }
@@ -132,12 +135,12 @@ fn calls_at<'a>(places: &'a BTreeMap<Prefix, Place>, prefix: &Prefix) -> &'a [u6
 pub fn lend(
     alloc: Global,
     places: &mut BTreeMap<Prefix, Place>,
-    fails: &[FailAt],
+    lending: &Lending,
     prefix: &Prefix,
     lanes: u32,
 ) -> Result<Vec<MemLane>, AllocError>
     requires { 1 ≤ lanes }
-    ensures lanes { IfOk result (λ made. AreNew number_of lanes_of faults_of lanes made.items) }
+    ensures lanes { IfOk result (λ made. AreNew share_of faults_of lanes made.items) }
     ensures tree { IfOk result (λ made.
         together (told_of made.items) ≡ told_in (place_at places.old.entries prefix.now)) }
     ensures lent { OnOk result (lent_in (place_at places.new.entries prefix.now) ≡ true) }
@@ -149,7 +152,7 @@ pub fn lend(
         alloc,
         lanes_at(places, prefix),
         calls_at(places, prefix),
-        fails,
+        lending,
         prefix,
         lanes,
     )?;
@@ -205,6 +208,7 @@ fn first_place(alloc: Global, tree: Tree) -> Result<Place, AllocError>
     let lane = MemLane {
         number: 0,
         lanes: 1,
+        abilities: Abilities::ALL,
         tree,
         meter: Meter::new(0, Vec::new(alloc)),
     };

@@ -1,7 +1,8 @@
-ghost use Rattle.std.specs.Prelude.{◌≡◌, ◌≤◌, ℕ, List, is_some, IfOk, OnOk, OnErr};
+ghost use Rattle.std.specs.Prelude.{◌≡◌, ◌≤◌, ℕ, List, is_some, None, IfOk, OnOk, OnErr};
+ghost use Rattle.conda_device.specs.Tree.{move};
 ghost use Rattle.std.specs.FinMap as map;
 ghost use Rattle.std.specs.Option.{option_copied};
-ghost use Rattle.conda_dev.specs.Tree.{first_of, in_share};
+ghost use Rattle.conda_dev.specs.Shares.{first_of, in_share};
 
 use conda_base::Copied;
 use conda_path::{Node, RelPath, lane_of};
@@ -17,7 +18,7 @@ pub struct Tree {
 
 impl Model for Tree {
     ghost use Rattle.std.specs.FinMap as map;
-    ghost use Rattle.conda_dev.specs.Tree as tree;
+    ghost use Rattle.conda_device.specs.Tree as tree;
 
     ghost Value = { tree.Tree };
 
@@ -57,6 +58,41 @@ impl Tree {
     {
         self.nodes.insert(path, node)?;
         Ok(())
+    }
+
+    /// Takes away what stands at a path. It takes no memory.
+    pub fn erase(&mut self, path: &RelPath)
+        ensures { self.new ≡ map.remove self.old path.now }
+    {
+        let _ = self.nodes.remove(path);
+    }
+
+    /// Moves a node to a path where nothing is.
+    pub fn shift(&mut self, from: &RelPath, to: &RelPath) -> Result<(), AllocError>
+        requires { map.get self.old to.now ≡ None }
+        ensures ok { OnOk result (self.new ≡ move self.old from.now to.now) }
+        ensures err { OnErr result (self.new ≡ self.old) }
+    {
+        match self.get(from) {
+            Some(node) => {
+                let node = node.copy()?;
+                self.put(to.copy()?, node)?;
+                self.erase(from);
+                Ok(())
+            }
+            None => Ok(()),
+        }
+    }
+
+    /// The paths, ascending by bytes.
+    pub fn paths(&self, alloc: Global) -> Result<Vec<RelPath>, AllocError>
+        ensures { IfOk result (λ paths. paths.items ≡ map.keys self.now) }
+    {
+        let mut made = Vec::new(alloc);
+        for (path, _) in self.nodes.iter() {
+            made.push(path.copy()?)?;
+        }
+        Ok(made)
     }
 }
 

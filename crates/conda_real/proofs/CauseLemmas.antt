@@ -1,10 +1,10 @@
 -- A count that rises exactly where a call failed is the cause of its failure.
 use Rattle.std.proofs.Common.{◌≡◌, ℕ, ◌≤◌, Result, Ok, Err, refl, sym, subst, arith}
 use Rattle.std.proofs.lemmas.Bool.Decides.{nat_tests}
-use Rattle.conda_dev.specs.Fault.{HasCause, HasDeviceCause, Rose}
-use Rattle.conda_dev.specs.declared.fault.Failed.{Failed}
-use Rattle.conda_dev.specs.declared.fault.DeviceErr.{DeviceErr}
-use Rattle.conda_dev.specs.declared.fault.DeviceErr.TheVariants as devices
+use Rattle.conda_device.specs.Fault.{HasCause, HasDeviceCause, Rose}
+use Rattle.conda_device.specs.declared.fault.Failed.{Failed}
+use Rattle.conda_device.specs.declared.fault.DeviceErr.{DeviceErr}
+use Rattle.conda_device.specs.declared.fault.DeviceErr.TheVariants as devices
 use Rattle.conda_real.specs.Refusals.{count_after, device_count_after, one_more}
 
 grows : (count : ℕ) → count ≤ one_more count

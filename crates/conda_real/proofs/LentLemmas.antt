@@ -1,6 +1,6 @@
 -- Prefixes that are lent, and lanes that tell nothing.
 use Rattle.std.proofs.Common.{◌≡◌, ◌≤◌, ℕ, List, [], ◌∷◌, length, map, Bool, true, false, ◌&&◌, ◌||◌, not, cond, Option, Some, None, is_some, refl, arith}
-use Rattle.conda_dev.specs.Tree.{together}
+use Rattle.conda_device.specs.Tree.{together}
 
 -- one more is noted
 pub noted : (b : Bool) (lanes : ℕ) (before : Option ℕ) → is_some (cond b (Some lanes) before) ≡ (b || is_some before)

@@ -4,9 +4,9 @@ use Rattle.std.specs.IoError.{error_kind}
 use Rattle.std.specs.declared.io.Error.{Error}
 use Rattle.std.specs.declared.io.ErrorKind.{ErrorKind}
 use Rattle.std.specs.declared.io.ErrorKind.TheVariants.{NotFound, NotADirectory, InvalidFilename}
-use Rattle.conda_dev.specs.declared.fault.Failed.{Failed}
-use Rattle.conda_dev.specs.declared.fault.DeviceErr.{DeviceErr}
-use Rattle.conda_dev.specs.declared.fault.DeviceErr.TheVariants as devices
+use Rattle.conda_device.specs.declared.fault.Failed.{Failed}
+use Rattle.conda_device.specs.declared.fault.DeviceErr.{DeviceErr}
+use Rattle.conda_device.specs.declared.fault.DeviceErr.TheVariants as devices
 
 -- Nothing is at a path: it isn't there, one of its parts is no folder, or one is longer than the file system takes.
 abbrev pub says_absent : ErrorKind → Bool
@@ -38,3 +38,9 @@ ComesTo (Err error) result before now =
     MatchBool (says_absent (error_kind error))
     ((result ≡ Ok None) × (now ≡ before))
     ((result ≡ Err (record {})) × (now ≡ one_more before))
+
+-- What a call of the machine that has to succeed comes to: its value, or a fault. Each refusal is a fault and nothing else
+-- is one, and it alone is counted.
+abbrev pub IsDone : {T : Type 0} → Result T Error → Result T Failed → ℕ → ℕ → Type 0
+IsDone (Ok x) result before now = (result ≡ Ok x) × (now ≡ before)
+IsDone (Err error) result before now = (result ≡ Err (record {})) × (now ≡ one_more before)

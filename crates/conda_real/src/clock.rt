@@ -1,4 +1,4 @@
-use conda_dev::Clock;
+use conda_device::Clock;
 use std::rt;
 use std::time::{SystemTime, UNIX_EPOCH};
 

@@ -1,12 +1,12 @@
 ghost use Rattle.std.specs.Prelude.{◌≡◌, ◌+◌, ◌-◌, ◌^◌, None, IfOk, OnOk, OnErr, min, sum_by};
-ghost use Rattle.conda_dev.specs.Hosts.{CanTakeBack, IsLentToo, IsNew, IsReturned, TakesBack};
-ghost use Rattle.conda_dev.specs.Lanes.{AreNew};
+ghost use Rattle.conda_device.specs.Hosts.{CanTakeBack, IsLentToo, IsNew, IsReturned, TakesBack};
+ghost use Rattle.conda_device.specs.Lanes.{AreNew};
 ghost use Rattle.conda_real.specs.Lent.{is_lent};
-ghost use Rattle.conda_real.specs.RealLanes.{number_of, lanes_of, faults_of};
+ghost use Rattle.conda_real.specs.RealLanes.{faults_of, share_of};
 
 use crate::lane::RealLane;
 use conda_base::{Copied, Text};
-use conda_dev::{DeviceErr, FaultCount, Host, Lane};
+use conda_device::{DeviceErr, FaultCount, Host, Lane};
 use conda_path::Prefix;
 use std::alloc::{AllocError, Global};
 use std::collections::BTreeMap;
@@ -26,7 +26,8 @@ pub struct RealHost<R: Files + AllocGlobal + Clone + Drop> {
 impl<R: Files + AllocGlobal + Clone + Send + Drop> RealHost<R> {
     /// A host over the folder `root`.
     pub fn make(rt: R, alloc: Global, root: &str) -> Result<RealHost<R>, AllocError>
-        ensures { IfOk result (λ host. IsNew (λ _. None) (⟦<RealHost<R> as Host>⟧.state host)) }
+        ensures { IfOk result (λ host. IsNew (λ _. None) (λ _ _. None)
+            (⟦<RealHost<R> as Host>⟧.state host)) }
     {
         Ok(RealHost {
             rt,
@@ -49,13 +50,15 @@ fn all_lanes<R: Files + AllocGlobal + Clone + Drop>(
     rt: &R,
     alloc: Global,
     folder: &Text,
+    pkgs: &str,
     lanes: u32,
 ) -> Result<Vec<RealLane<R>>, AllocError>
-    ensures { IfOk result (λ made. AreNew number_of lanes_of faults_of lanes made.items) }
+    ensures { IfOk result (λ made. AreNew share_of faults_of lanes made.items) }
 {
     let mut made = Vec::new(alloc);
     for number in 0..lanes {
-        made.push(RealLane::make(rt.clone()?, folder.copy()?, number, lanes))?;
+        let pkgs = Text::from_str(alloc, pkgs)?;
+        made.push(RealLane::make(rt.clone()?, folder.copy()?, pkgs, number, lanes))?;
     }
     Ok(made)
 }
@@ -78,7 +81,7 @@ fn forget(lent: &mut BTreeMap<Prefix, u32>, prefix: &Prefix)
 }
 
 /// Adds the faults of lanes to a count.
-fn add_faults<R: Files + AllocGlobal + Drop>(faults: &mut FaultCount, lanes: &[RealLane<R>])
+fn add_faults<R: Files + AllocGlobal + Clone + Drop>(faults: &mut FaultCount, lanes: &[RealLane<R>])
     ensures { faults.new.count
         ≡ min (faults.old.count + sum_by faults_of lanes.now) (2 ^ 64 - 1) }
 {
@@ -92,13 +95,17 @@ fn add_faults<R: Files + AllocGlobal + Drop>(faults: &mut FaultCount, lanes: &[R
 impl<R: Files + AllocGlobal + Clone + Send + Drop> Host for RealHost<R> {
     type Lane = RealLane<R>;
 
-    ghost use Rattle.std.specs.Prelude.{None};
+    ghost use Rattle.std.specs.Prelude.{[], None};
 
     ghost state = { λ host. record {
       told = λ _. None;
       lent = is_lent host.lent.entries;
+      files = λ _ _. None;
+      gots = [];
       faults = host.faults.count;
       lane_faults = host.lane_faults.count;
+      chan_faults = 0;
+      store_faults = 0;
     } };
 
     fn faults(&self) -> u64 {
@@ -109,18 +116,18 @@ impl<R: Files + AllocGlobal + Clone + Send + Drop> Host for RealHost<R> {
         &mut self,
         alloc: Global,
         prefix: &Prefix,
-        _pkgs: &str,
+        pkgs: &str,
         n: u32,
     ) -> Result<Vec<RealLane<R>>, DeviceErr> {
         let folder = folder_of(alloc, &self.root, prefix)?;
-        let lanes = all_lanes(&self.rt, alloc, &folder, n)?;
+        let lanes = all_lanes(&self.rt, alloc, &folder, pkgs, n)?;
         note(&mut self.lent, prefix, n)?;
         Ok(lanes)
     }
 
     fn take_back(&mut self, prefix: &Prefix, lanes: Vec<RealLane<R>>)
-        requires { CanTakeBack ⟦<RealLane<R> as Lane>⟧.number ⟦<RealLane<R> as Lane>⟧.lanes
-            prefix.now lanes.items (⟦<RealHost<R> as Host>⟧.state self.old) }
+        requires { CanTakeBack ⟦<RealLane<R> as Lane>⟧.share prefix.now lanes.items
+            (⟦<RealHost<R> as Host>⟧.state self.old) }
         ensures { TakesBack ⟦<RealLane<R> as Lane>⟧.told ⟦<RealLane<R> as Lane>⟧.faults
             prefix.now lanes.items (⟦<RealHost<R> as Host>⟧.state self.old)
             (⟦<RealHost<R> as Host>⟧.state self.new) }

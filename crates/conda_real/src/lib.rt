@@ -3,10 +3,15 @@
 #![tactic(auto)]
 
 mod clock;
+mod coming;
 mod host;
 mod lane;
+mod places;
+mod reading;
 mod refusal;
+mod share;
 mod streams;
+mod walk;
 
 pub use clock::RealClock;
 pub use host::RealHost;

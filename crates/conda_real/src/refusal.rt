@@ -1,13 +1,13 @@
 ghost use Rattle.std.specs.Prelude.{◌≡◌, ◌≤◌};
 ghost use Rattle.std.specs.IoError.{error_kind};
-ghost use Rattle.conda_dev.specs.Fault.{Rose};
-ghost use Rattle.conda_real.specs.Refusals.{ComesTo, count_after, one_more, says_absent};
+ghost use Rattle.conda_device.specs.Fault.{Rose};
+ghost use Rattle.conda_real.specs.Refusals.{ComesTo, IsDone, count_after, one_more, says_absent};
 
-use conda_dev::{Failed, FaultCount};
+use conda_device::{Failed, FaultCount};
 use std::io::{self, Error, ErrorKind};
 
 /// Whether an error says that nothing is at a path. It takes no memory.
-fn is_absent(error: &Error) -> bool
+pub fn is_absent(error: &Error) -> bool
     ensures { result ≡ says_absent (error_kind error.now) }
 {
     matches!(
@@ -40,5 +40,16 @@ pub fn answered<T: Drop>(
         Ok(value) => Ok(Some(value)),
         Err(e) if is_absent(&e) => Ok(None),
         Err(_) => Err(refused(faults)),
+    }
+}
+
+/// What a call of the machine that has to succeed came to. It takes no memory.
+pub fn done<T: Drop>(called: io::Result<T>, faults: &mut FaultCount) -> Result<T, Failed>
+    ensures answer { IsDone called result faults.old.count faults.new.count }
+    ensures count { faults.new.count ≡ count_after result faults.old.count }
+{
+    match called {
+        Ok(value) => Ok(value),
+        Err(_refusal) => Err(refused(faults)),
     }
 }

@@ -1,11 +1,12 @@
 ghost use Rattle.std.specs.Prelude.{◌≡◌, false};
 
-use conda_base::{Bytes, Text};
+use crate::lane::{run_in_host, run_in_lane, shares_of};
+use conda_base::Text;
 use conda_dev::{
     Clock, DeviceErr, FixedClock, Host, In, Lane, MemHost, MemIn, MemLane, MemOut, Out, Seen, Tree,
 };
-use conda_path::{Kind, Node, Prefix, RelPath};
-use rows_plan::plan_of;
+use conda_path::{Prefix, RelPath};
+use rows_plan::{kind_word, plan_of, tree_of};
 use rows_text::shown;
 use std::alloc::{AllocError, Global};
 
@@ -16,9 +17,17 @@ pub fn answer(alloc: Global, call: &str, arguments: &[Text]) -> Result<Option<St
         ("lane.look", [plan, tree, paths]) => {
             look_in_lane(alloc, plan.as_str(), tree.as_str(), paths.as_str())
         }
-        ("lane.read", [tree, path, max]) => {
-            read_in_lane(alloc, tree.as_str(), path.as_str(), max.as_str())
+        ("lane.run", [plan, tree, calls]) => {
+            run_in_lane(alloc, plan.as_str(), tree.as_str(), calls.as_str())
         }
+        ("host.run", [stop, abilities, tree, calls]) => run_in_host(
+            alloc,
+            stop.as_str(),
+            abilities.as_str(),
+            tree.as_str(),
+            calls.as_str(),
+        ),
+        ("host.shares", [lanes, tree]) => shares_of(alloc, lanes.as_str(), tree.as_str()),
         ("host.look", [plan, tree, paths]) => {
             look_in_host(alloc, plan.as_str(), tree.as_str(), paths.as_str())
         }
@@ -29,41 +38,6 @@ pub fn answer(alloc: Global, call: &str, arguments: &[Text]) -> Result<Option<St
         ("clock.now", [now]) => clock(alloc, now.as_str()),
         _ => Ok(None),
     }
-}
-
-fn kind_of(word: &str) -> Kind {
-    match word {
-        "exec" => Kind::Exec,
-        "soft" => Kind::Soft,
-        _ => Kind::File,
-    }
-}
-
-fn kind_word(kind: Kind) -> &'static str {
-    match kind {
-        Kind::File => "file",
-        Kind::Exec => "exec",
-        Kind::Soft => "soft",
-    }
-}
-
-fn tree_of(alloc: Global, text: &str) -> Result<Tree, AllocError> {
-    let mut tree = Tree::new(alloc);
-    for entry in text.split(';') {
-        let Some((path, rest)) = entry.split_once(' ') else {
-            continue;
-        };
-        let Some((kind, bytes)) = rest.split_once(' ') else {
-            continue;
-        };
-        let Ok(path) = RelPath::read(alloc, path) else {
-            continue;
-        };
-        let bytes = Bytes::from_slice(alloc, bytes.as_bytes())?;
-        let kind = kind_of(kind);
-        tree.put(path, Node { kind, bytes })?;
-    }
-    Ok(tree)
 }
 
 /// What a look came to, and the count of faults.
@@ -104,26 +78,6 @@ fn look_in_lane(
         push_look(&mut made, alloc, seen, lane.faults())?;
     }
     Ok(Some(made))
-}
-
-fn read_in_lane(
-    alloc: Global,
-    tree: &str,
-    path: &str,
-    max: &str,
-) -> Result<Option<String>, AllocError> {
-    let mut lane = MemLane::make(alloc, 0, 1, tree_of(alloc, tree)?, Vec::new(alloc))?;
-    let (Ok(path), Ok(max)) = (RelPath::read(alloc, path), max.parse::<u64>()) else {
-        return Ok(None);
-    };
-    let Ok(Some(node)) = lane.read(alloc, &path, max) else {
-        return Ok(None);
-    };
-    let word = kind_word(node.kind);
-    let Ok(text) = str::from_utf8(node.bytes.as_slice()) else {
-        return Ok(None);
-    };
-    Ok(Some(format!(in alloc; "{word} {text}")?))
 }
 
 /// Lends a prefix, looks at a path in the first lane where it is the only one, and takes the prefix back.

@@ -2,6 +2,7 @@
 #![tactic(auto)]
 
 mod dev;
+mod lane;
 mod machine;
 
 use conda_base::Text;

@@ -20,32 +20,41 @@ pub fn plan_of(alloc: Global, text: &str) -> Result<Vec<FailAt>, AllocError> {
 
 fn fail_of(alloc: Global, words: &[&str]) -> Option<FailAt> {
     match words {
-        ["host", rest @ ..] => failing(Target::Host, rest),
-        ["input", rest @ ..] => failing(Target::Input, rest),
-        ["output", rest @ ..] => failing(Target::Output, rest),
-        ["lane", prefix, number, rest @ ..] => {
+        [target @ .., "fails", "at", call, effect] => {
+            let on = target_of(alloc, target)?;
+            let Ok(call) = call.parse::<u64>() else {
+                return None;
+            };
+            let effect = effect_of(*effect);
+            Some(FailAt { on, call, effect })
+        }
+        _ => None,
+    }
+}
+
+/// The target that words name: `host`, `input`, `output` or `lane PREFIX NUMBER`.
+pub fn target_of(alloc: Global, words: &[&str]) -> Option<Target> {
+    match words {
+        ["host"] => Some(Target::Host),
+        ["input"] => Some(Target::Input),
+        ["output"] => Some(Target::Output),
+        ["lane", prefix, number] => {
             let Ok(prefix) = Prefix::read(alloc, *prefix) else {
                 return None;
             };
             let Ok(number) = number.parse::<u32>() else {
                 return None;
             };
-            failing(Target::Lane { prefix, number }, rest)
+            Some(Target::Lane { prefix, number })
         }
         _ => None,
     }
 }
 
-fn failing(on: Target, words: &[&str]) -> Option<FailAt> {
-    let ["fails", "at", call, effect] = words else {
-        return None;
-    };
-    let Ok(call) = call.parse::<u64>() else {
-        return None;
-    };
-    let effect = match *effect {
+/// The effect of the word `before` or `after`.
+pub fn effect_of(word: &str) -> Effect {
+    match word {
         "before" => Effect::Before,
         _ => Effect::After,
-    };
-    Some(FailAt { on, call, effect })
+    }
 }

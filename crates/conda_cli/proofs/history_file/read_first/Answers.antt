@@ -14,5 +14,5 @@ returns-clause-trees g c =
 
 pub take_back-requires : goal.take_back-requires
 take_back-requires g c =
-    back_after_call _ _ _ c.args.prefix.now 1 0 c.in-Ok.lanes.items c.index_mut.result.now c.read-read.new.self _ _
-    c.in-Ok.ensures.lent (lit≤ tt) c.in-Ok.ensures.lanes c.index_mut.ensures.value c.read-read.ensures.number c.read-read.ensures.lanes
+    back_after_call _ _ c.args.prefix.now 1 0 c.in-Ok.lanes.items c.index_mut.result.now c.read-read.new.self _ _
+    c.in-Ok.ensures.lent (lit≤ tt) c.in-Ok.ensures.lanes c.index_mut.ensures.value c.read-read.ensures.share

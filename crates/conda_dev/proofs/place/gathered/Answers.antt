@@ -4,7 +4,7 @@ use Rattle.std.specs.Ordering.{nat_cmp}
 use Rattle.std.specs.Cmp.Lexicographic.{slice_cmp}
 use Rattle.std.specs.FinMap as trees
 use Rattle.conda_dev.specs.Memory.{node_at, trees_of}
-use Rattle.conda_dev.specs.Tree.{first_of, in_share}
+use Rattle.conda_dev.specs.Shares.{first_of, in_share}
 use Rattle.conda_dev.proofs.GatherLemmas.{gather_step}
 use Rattle.conda_dev.proofs.TreeLemmas.{share_none}
 use Rattle.conda_dev.proofs.place.gathered.Goals as goal

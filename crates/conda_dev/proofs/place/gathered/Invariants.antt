@@ -2,7 +2,7 @@
 use Rattle.std.proofs.Common.{◌≡◌, ℕ, List, drop}
 use Rattle.std.specs.FinMap as trees
 use Rattle.conda_dev.specs.Memory.{node_at, trees_of}
-use Rattle.conda_dev.specs.Tree.{first_of, in_share}
+use Rattle.conda_dev.specs.Shares.{first_of, in_share}
 use Rattle.conda_dev.proofs.place.gathered.Given as goal
 
 abbrev pub invariant-loop-lane : goal.invariant-loop-lane

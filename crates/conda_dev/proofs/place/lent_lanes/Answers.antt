@@ -1,4 +1,4 @@
-use Rattle.std.proofs.Common.{List, ◌≡◌, ◌+◌, subst, sym, arith}
+use Rattle.std.proofs.Common.{List, ◌≡◌, ◌+◌, ap, subst, sym, arith}
 use Rattle.conda_dev.specs.declared.mem_lane.MemLane.{MemLane}
 use Rattle.conda_dev.proofs.GatherLemmas.{SoFar, ended, goes_on}
 use Rattle.conda_dev.proofs.place.lent_lanes.Goals as goal
@@ -6,7 +6,7 @@ use Rattle.conda_dev.proofs.place.lent_lanes.Goals as goal
 pub loop-number-preserved : goal.loop-number-preserved
 loop-number-preserved c =
     let lane = c.in_ok-lent_lane.ensures in
-    let more = goes_on c.loop-number.number c.args.lanes c.args.from.now c.loop-number.made.items c.in_ok-lent_lane.field-0 c.loop-number.invariant lane.number lane.lanes lane.unharmed lane.nodes in
+    let more = goes_on c.loop-number.number c.args.lanes c.args.from.now c.loop-number.made.items c.in_ok-lent_lane.field-0 c.loop-number.invariant (ap (λ s. s.number) lane.share) (ap (λ s. s.lanes) lane.share) lane.unharmed lane.nodes in
     subst (SoFar (c.loop-number.number + 1) c.args.lanes c.args.from.now) (sym {A = List MemLane} c.in_ok-push.ensures.items) more
 
 pub returns : goal.returns

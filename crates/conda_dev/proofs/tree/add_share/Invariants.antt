@@ -1,7 +1,7 @@
 -- what was added so far, and of what is left to add, is what is to be added
 use Rattle.std.proofs.Common.{◌≡◌, ℕ, List}
 use Rattle.std.specs.FinMap as map
-use Rattle.conda_dev.specs.Tree.{first_of, in_share}
+use Rattle.conda_dev.specs.Shares.{first_of, in_share}
 use Rattle.conda_dev.proofs.TreeLemmas.{at_path}
 use Rattle.conda_dev.proofs.tree.add_share.Given as goal
 

@@ -3,7 +3,7 @@ use Rattle.std.specs.Ordering.{nat_cmp}
 use Rattle.std.specs.Cmp.Lexicographic.{slice_cmp}
 use Rattle.std.specs.BTreeMap.{is_at}
 use Rattle.std.specs.Map.{lookup}
-use Rattle.conda_dev.specs.Keys.{same_test}
+use Rattle.conda_device.specs.Keys.{same_test}
 use Rattle.conda_real.specs.Lent.{is_lent}
 use Rattle.conda_real.proofs.LentLemmas.{removed}
 use Rattle.conda_real.proofs.host.forget.Goals as goal

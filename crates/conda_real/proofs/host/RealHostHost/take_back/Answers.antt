@@ -9,4 +9,5 @@ returns g c = record {
   returned = c.forget.ensures;
   lane_faults = search rules;
   faults = refl;
+  handles = record { files = refl; gots = refl; chan_faults = refl; store_faults = refl };
 }

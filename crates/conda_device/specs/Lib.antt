@@ -1,0 +1,9 @@
+pub mod Fault
+pub mod Streams
+pub mod Tree
+pub mod Trees
+pub mod Lanes
+pub mod Keys
+pub mod Seen
+pub mod Gots
+pub mod Hosts

@@ -1,0 +1,5 @@
+use Rattle.std.proofs.Common.{◌≡◌}
+use Rattle.rows_devices.proofs.lane.run_all.Given as goal
+
+abbrev pub invariant-loop-call : goal.invariant-loop-call
+invariant-loop-call l = (l.lane.number ≡ 0) × (l.lane.lanes ≡ 1)
