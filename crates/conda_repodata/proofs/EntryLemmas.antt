@@ -93,7 +93,8 @@ abbrev pub InOrder : List Entry → Type 0
 InOrder [] = Unit {0}
 InOrder (e ∷ es) = AllByRecursion (Before e) es × InOrder es
 
-above : (low : List ℕ) (s : Section) (ms : Members) → IsBelowFirst low ms → KeysAscendInMembers ms → AllByRecursion (λ e. C low e.file ≡ Less) (entries_of s ms)
+above : (low : List ℕ) (s : Section) (ms : Members) → IsBelowFirst low ms → KeysAscendInMembers ms
+    → AllByRecursion (λ e. C low e.file ≡ Less) (entries_of s ms)
 above low s no_members below all = tt
 above low s (member file value rest) below all =
     (below, each (entries_of s rest) (λ e h. nat_list_cmp_total.trans low file e.file below h) (above file s rest all.0 all.2))
@@ -115,14 +116,16 @@ pub walk_in_order : (packages conda : Members) → KeysAscendInMembers packages 
 walk_in_order packages no_members p c = in_order Section.Packages packages p
 walk_in_order packages (member file value rest) p c =
     let e : Entry = record { section = Section.PackagesConda; file = file; value = value } in (
-      each_of_both (Before e) (entries_of Section.PackagesConda rest) (entries_of Section.Packages packages) (behind Section.PackagesConda file value rest c.0 c.2)
+      each_of_both (Before e) (entries_of Section.PackagesConda rest) (entries_of Section.Packages packages)
+          (behind Section.PackagesConda file value rest c.0 c.2)
           (each (entries_of Section.Packages packages) (λ f h. inr (refl, h)) (of_section Section.Packages packages)),
       walk_in_order packages rest p c.2,
     )
 
 -- ---- an entry of the text is one of these
 
-member_in : (s : Section) (file : List ℕ) (value : Data) (ms : Members) → get_member file ms ≡ Some value → IsIn (entry_at s file value) (entries_of s ms)
+member_in : (s : Section) (file : List ℕ) (value : Data) (ms : Members) → get_member file ms ≡ Some value
+    → IsIn (entry_at s file value) (entries_of s ms)
 member_in s file value no_members e = cc e
 member_in s file value (member name old rest) e = by (C file name) refl e (member_in s file value rest)
   where
@@ -143,7 +146,9 @@ in_member s file value (member name old rest) all (inl e) =
     let same : C file name ≡ Equal = subst (λ n. C file n ≡ Equal) (sym f) (tied_itself nat_list_cmp_total file) in
     ap (λ o. match_ordering o (get_member file rest) (Some old) (get_member file rest)) same ∙ ap Some (sym (ap (λ (e : Entry). e.value) e))
 in_member s file value (member name old rest) all (inr i) =
-    let up : C name file ≡ Less = of_each (λ (e : Entry). C name e.file ≡ Less) (entry_at s file value) (entries_of s rest) (above name s rest all.0 all.2) i in
+    let up : C name file ≡ Less =
+    of_each (λ (e : Entry). C name e.file ≡ Less) (entry_at s file value) (entries_of s rest) (above name s rest all.0 all.2) i
+    in
     let down : C file name ≡ Greater = nat_list_cmp_total.antisymm file name ∙ ap ordering_reverse up in
     ap (λ o. match_ordering o (get_member file rest) (Some old) (get_member file rest)) down ∙ in_member s file value rest all.2 i
 
@@ -152,25 +157,32 @@ abbrev pub members_at : Section → Members → Members → Members
 members_at Section.Packages packages conda = packages
 members_at Section.PackagesConda packages conda = conda
 
-pub entry_walked : (packages conda : Members) (s : Section) (file : List ℕ) (value : Data) → get_member file (members_at s packages conda) ≡ Some value
+pub entry_walked : (packages conda : Members) (s : Section) (file : List ℕ) (value : Data)
+    → get_member file (members_at s packages conda) ≡ Some value
     → IsIn (entry_at s file value) (walk packages conda)
 entry_walked packages conda Section.Packages file value e =
-    in_second (entry_at Section.Packages file value) (entries_of Section.PackagesConda conda) (entries_of Section.Packages packages) (member_in Section.Packages file value packages e)
+    in_second (entry_at Section.Packages file value) (entries_of Section.PackagesConda conda) (entries_of Section.Packages packages)
+    (member_in Section.Packages file value packages e)
 entry_walked packages conda Section.PackagesConda file value e =
-    in_first (entry_at Section.PackagesConda file value) (entries_of Section.PackagesConda conda) (entries_of Section.Packages packages) (member_in Section.PackagesConda file value conda e)
+    in_first (entry_at Section.PackagesConda file value) (entries_of Section.PackagesConda conda) (entries_of Section.Packages packages)
+    (member_in Section.PackagesConda file value conda e)
 
-pub walked_entry : (packages conda : Members) → KeysAscendInMembers packages → KeysAscendInMembers conda → (s : Section) (file : List ℕ) (value : Data)
+pub walked_entry : (packages conda : Members) → KeysAscendInMembers packages → KeysAscendInMembers conda
+    → (s : Section) (file : List ℕ) (value : Data)
     → IsIn (entry_at s file value) (walk packages conda) → get_member file (members_at s packages conda) ≡ Some value
-walked_entry packages conda p c s file value i = by (in_either (entry_at s file value) (entries_of Section.PackagesConda conda) (entries_of Section.Packages packages) i)
+walked_entry packages conda p c s file value i =
+    by (in_either (entry_at s file value) (entries_of Section.PackagesConda conda) (entries_of Section.Packages packages) i)
   where
-    at : (t : Section) (ms : Members) → KeysAscendInMembers ms → members_at t packages conda ≡ ms → IsIn (entry_at s file value) (entries_of t ms)
+    at : (t : Section) (ms : Members) → KeysAscendInMembers ms → members_at t packages conda ≡ ms
+        → IsIn (entry_at s file value) (entries_of t ms)
         → get_member file (members_at s packages conda) ≡ Some value
     at t ms all is i =
         let same : s ≡ t = of_each (λ (e : Entry). e.section ≡ t) (entry_at s file value) (entries_of t ms) (of_section t ms) i in
         ap (λ u. get_member file (members_at u packages conda)) same ∙ ap (get_member file) is
         ∙ in_member t file value ms all (subst (λ u. IsIn (entry_at u file value) (entries_of t ms)) same i)
 
-    by : IsIn (entry_at s file value) (entries_of Section.PackagesConda conda) ⊎ IsIn (entry_at s file value) (entries_of Section.Packages packages)
+    by : IsIn (entry_at s file value) (entries_of Section.PackagesConda conda)
+        ⊎ IsIn (entry_at s file value) (entries_of Section.Packages packages)
         → get_member file (members_at s packages conda) ≡ Some value
     by (inl i) = at Section.PackagesConda conda c refl i
     by (inr i) = at Section.Packages packages p refl i
@@ -179,14 +191,17 @@ walked_entry packages conda p c s file value i = by (in_either (entry_at s file 
 
 -- what conda_record says of a record that is read
 abbrev pub RecordLaw : Type 0
-RecordLaw = (value : Data) (file channel subdir : List ℕ) (pkg : PkgRecord) → record_read value file channel subdir ≡ Ok pkg → IsRecord value file channel subdir pkg
+RecordLaw =
+    (value : Data) (file channel subdir : List ℕ) (pkg : PkgRecord) → record_read value file channel subdir ≡ Ok pkg
+    → IsRecord value file channel subdir pkg
 
 -- the name of a package file is no dist
 file_named : (file dist : List ℕ) → NamesDist file dist → names_file dist ≡ false → is_some (cut_ending file) ≡ true → IsFileOf file dist
 file_named file dist (inl same) plain some = absurd (true≢false (sym some ∙ ap names_file same ∙ plain))
 file_named file dist (inr file_of) plain some = file_of
 
-pub named : RecordLaw → (channel subdir file : List ℕ) (value : Data) (pkg : PkgRecord) → entry_read channel subdir file value ≡ Ok pkg → IsFileOf file pkg.dist
+pub named : RecordLaw → (channel subdir file : List ℕ) (value : Data) (pkg : PkgRecord) → entry_read channel subdir file value ≡ Ok pkg
+    → IsFileOf file pkg.dist
 named law channel subdir file value pkg e =
     let read_on : PkgRecord → Read PkgRecord RecordField = λ p. Ok (dated p) in
     let some = guarded (is_some (cut_ending file)) (record_read value file channel subdir >>= read_on) RecordField.Fn pkg e in
@@ -202,8 +217,12 @@ same_text a b = slice_eq-Decides Decides-eqb a b (pointwise nat_eq a b) refl
 
 ends : (front ending : List ℕ) → ends_with nat_eq (front ++ ending) ending ≡ true
 ends front ending =
-    let k : length (front ++ ending) - length ending ≡ length front = ap (λ n. n - length ending) (length-append front ending) ∙ add-sub_cancel (length front) (length ending) in
-    let tail : drop (length (front ++ ending) - length ending) (front ++ ending) ≡ ending = ap (λ n. drop n (front ++ ending)) k ∙ drop-append_seam front ending in
+    let k : length (front ++ ending) - length ending ≡ length front =
+    ap (λ n. n - length ending) (length-append front ending) ∙ add-sub_cancel (length front) (length ending)
+    in
+    let tail : drop (length (front ++ ending) - length ending) (front ++ ending) ≡ ending =
+    ap (λ n. drop n (front ++ ending)) k ∙ drop-append_seam front ending
+    in
     (same_text ending (drop (length (front ++ ending) - length ending) (front ++ ending))).1 (sym tail)
 
 -- a text that ends otherwise in its last character
@@ -216,7 +235,8 @@ ends_not front = by (ends_with nat_eq (front ++ codes ".tar.bz2") (codes ".conda
         let k = length (front ++ codes ".tar.bz2") - length (codes ".conda") in
         let start = take k (front ++ codes ".tar.bz2") in
         let whole : front ++ codes ".tar.bz2" ≡ start ++ codes ".conda" =
-        sym (take-append-drop k (front ++ codes ".tar.bz2")) ∙ ap (λ e. start ++ e) (sym ((same_text (codes ".conda") (drop k (front ++ codes ".tar.bz2"))).0 h)) in
+        sym (take-append-drop k (front ++ codes ".tar.bz2"))
+        ∙ ap (λ e. start ++ e) (sym ((same_text (codes ".conda") (drop k (front ++ codes ".tar.bz2"))).0 h)) in
         let turned : reverse (codes ".tar.bz2") ++ reverse front ≡ reverse (codes ".conda") ++ reverse start =
         sym (reverse-append front (codes ".tar.bz2")) ∙ ap reverse whole ∙ reverse-append start (codes ".conda") in
         absurd (true≢false (ap (begins_with 50) turned))
@@ -248,13 +268,16 @@ packages_last false true = omega arith
 packages_last false false = omega arith
 
 never_below : (x y : List ℕ) → x ≡ y → C x y ≡ Less → ⊥
-never_below x y same less = let tie : C x y ≡ Equal = subst (λ z. C x z ≡ Equal) same (tied_itself nat_list_cmp_total x) in absurd (cc (tie, less))
+never_below x y same less =
+    let tie : C x y ≡ Equal = subst (λ z. C x z ≡ Equal) same (tied_itself nat_list_cmp_total x) in absurd (cc (tie, less))
 
 -- two files of one dist in one object
 in_one : (s : Section) (f g dist : List ℕ) → IsFileOf f dist → IsFileOf g dist → C f g ≡ Less → rank s f < rank s g
 in_one s f g dist (inl a) (inl b) less = absurd (never_below f g (a ∙ sym b) less)
 in_one s f g dist (inl a) (inr b) less =
-    let over : C f g ≡ Greater = ap (λ x. C x g) a ∙ ap (C (dist ++ codes ".tar.bz2")) b ∙ cmp-append dist (codes ".tar.bz2") (codes ".conda") in
+    let over : C f g ≡ Greater =
+    ap (λ x. C x g) a ∙ ap (C (dist ++ codes ".tar.bz2")) b ∙ cmp-append dist (codes ".tar.bz2") (codes ".conda")
+    in
     absurd (cc (over, less))
 in_one s f g dist (inr a) (inl b) less =
     let first = rank_is s f true (ap (λ x. ends_with nat_eq x (codes ".conda")) a ∙ ends dist (codes ".conda")) in
@@ -263,9 +286,16 @@ in_one s f g dist (inr a) (inl b) less =
 in_one s f g dist (inr a) (inr b) less = absurd (never_below f g (a ∙ sym b) less)
 
 -- of two entries of one dist the one that is read first has the lesser rank
-pub ranked : (a b : Entry) (dist : List ℕ) → IsFileOf a.file dist → IsFileOf b.file dist → Before a b → rank a.section a.file < rank b.section b.file
+pub ranked : (a b : Entry) (dist : List ℕ) → IsFileOf a.file dist → IsFileOf b.file dist → Before a b
+    → rank a.section a.file < rank b.section b.file
 ranked a b dist f g (inl h) = subst (λ s. rank a.section a.file < rank s b.file) h.0 (in_one a.section a.file b.file dist f g h.1)
 ranked a b dist f g (inr h) =
-    let first = rank_is a.section a.file (ends_with nat_eq a.file (codes ".conda")) refl ∙ ap (λ s. rank_with s (ends_with nat_eq a.file (codes ".conda"))) h.0 in
-    let second = rank_is b.section b.file (ends_with nat_eq b.file (codes ".conda")) refl ∙ ap (λ s. rank_with s (ends_with nat_eq b.file (codes ".conda"))) h.1 in
+    let first =
+    rank_is a.section a.file (ends_with nat_eq a.file (codes ".conda")) refl
+    ∙ ap (λ s. rank_with s (ends_with nat_eq a.file (codes ".conda"))) h.0
+    in
+    let second =
+    rank_is b.section b.file (ends_with nat_eq b.file (codes ".conda")) refl
+    ∙ ap (λ s. rank_with s (ends_with nat_eq b.file (codes ".conda"))) h.1
+    in
     rw (first, second) (packages_last (ends_with nat_eq a.file (codes ".conda")) (ends_with nat_eq b.file (codes ".conda")))

@@ -22,7 +22,7 @@ use Rattle.conda_record.specs.declared.error.RecordField.{RecordField}
 use Rattle.conda_record.specs.declared.pkg_record.PkgRecord.{PkgRecord}
 use Rattle.conda_repodata.specs.Ascending.{ascending}
 use Rattle.conda_repodata.specs.Entries.{aside_of, dist_of, entry_read, place_cmp, place_of, rank, section_name}
-use Rattle.conda_repodata.specs.Reading.{if_read, if_unread, records_of, repodata_of, repodata_read, repodata_with, section_field, section_read, unread_of}
+use Rattle.conda_repodata.specs.Reading.{all_records, all_unread, if_read, if_unread, records_of, repodata_of, repodata_read, repodata_with, section_field, section_read, unread_of}
 use Rattle.conda_repodata.specs.Rules.{Entry, IsEntry, IsRepodata, IsTaken, IsUnread}
 use Rattle.conda_repodata.specs.declared.aside.Aside.{Aside}
 use Rattle.conda_repodata.specs.declared.aside.Section.{Section}
@@ -72,9 +72,11 @@ module _ (channel subdir : List ℕ) where
   good_is s no_members = refl
   good_is s (member file value rest) = ap (if_read (entry_read channel subdir file value)) (good_is s rest)
 
-  records_are : (packages conda : Members) → records_of channel subdir conda ++ records_of channel subdir packages ≡ good (walk packages conda)
+  records_are : (packages conda : Members)
+      → all_records channel subdir packages conda ≡ good (walk packages conda)
   records_are packages conda =
-      ap (λ r. records_of channel subdir conda ++ r) (good_is Section.Packages packages) ∙ good-append Section.PackagesConda conda (entries_of Section.Packages packages)
+      ap (λ r. records_of channel subdir conda ++ r) (good_is Section.Packages packages)
+      ∙ good-append Section.PackagesConda conda (entries_of Section.Packages packages)
 
   abbrev found : List ℕ → List Entry → Option PkgRecord
   found dist es = at nat_list_cmp_total dist_of dist (good es)
@@ -84,40 +86,51 @@ module _ (channel subdir : List ℕ) where
     entry : Entry
     is_in : IsIn entry es
     is : reads channel subdir entry ≡ Ok pkg
-    least : (other : Entry) (p : PkgRecord) → IsIn other es → reads channel subdir other ≡ Ok p → p.dist ≡ pkg.dist → rank entry.section entry.file ≤ rank other.section other.file
+    least : (other : Entry) (p : PkgRecord) → IsIn other es → reads channel subdir other ≡ Ok p → p.dist ≡ pkg.dist
+        → rank entry.section entry.file ≤ rank other.section other.file
 
-  behind_another : (first : Entry) (es : List Entry) (pkg : PkgRecord) → ((p : PkgRecord) → reads channel subdir first ≡ Ok p → p.dist ≡ pkg.dist → ⊥) → IsLeast es pkg → IsLeast (first ∷ es) pkg
+  behind_another : (first : Entry) (es : List Entry) (pkg : PkgRecord)
+      → ((p : PkgRecord) → reads channel subdir first ≡ Ok p → p.dist ≡ pkg.dist → ⊥) → IsLeast es pkg → IsLeast (first ∷ es) pkg
   behind_another first es pkg apart l = record { entry = l.entry; is_in = inr l.is_in; is = l.is; least = by }
     where
-      by : (other : Entry) (p : PkgRecord) → (other ≡ first) ⊎ IsIn other es → reads channel subdir other ≡ Ok p → p.dist ≡ pkg.dist → rank l.entry.section l.entry.file ≤ rank other.section other.file
+      by : (other : Entry) (p : PkgRecord) → (other ≡ first) ⊎ IsIn other es → reads channel subdir other ≡ Ok p → p.dist ≡ pkg.dist
+          → rank l.entry.section l.entry.file ≤ rank other.section other.file
       by other p (inl e) r same = absurd (apart p (ap (reads channel subdir) (sym e) ∙ r) same)
       by other p (inr i) r same = l.least other p i r same
 
   module _ (law : RecordLaw) where
     -- entries of one dist
-    in_turn : (a b : Entry) (p q : PkgRecord) (dist : List ℕ) → reads channel subdir a ≡ Ok p → reads channel subdir b ≡ Ok q → p.dist ≡ dist → q.dist ≡ dist → Before a b
+    in_turn : (a b : Entry) (p q : PkgRecord) (dist : List ℕ) → reads channel subdir a ≡ Ok p → reads channel subdir b ≡ Ok q
+        → p.dist ≡ dist → q.dist ≡ dist → Before a b
         → rank a.section a.file < rank b.section b.file
     in_turn a b p q dist r s d e before =
-        ranked a b dist (subst (IsFileOf a.file) d (named law channel subdir a.file a.value p r)) (subst (IsFileOf b.file) e (named law channel subdir b.file b.value q s)) before
+        ranked a b dist (subst (IsFileOf a.file) d (named law channel subdir a.file a.value p r))
+        (subst (IsFileOf b.file) e (named law channel subdir b.file b.value q s)) before
 
     found_least : (es : List Entry) → InOrder es → (pkg : PkgRecord) → found pkg.dist es ≡ Some pkg → IsLeast es pkg
     found_least [] order pkg e = cc e
     found_least (first ∷ es) order pkg e = by (reads channel subdir first) refl e (found_least es order.1 pkg)
       where
-        here : (p : PkgRecord) → reads channel subdir first ≡ Ok p → p ≡ pkg → (other : Entry) (q : PkgRecord) → (other ≡ first) ⊎ IsIn other es → reads channel subdir other ≡ Ok q → q.dist ≡ pkg.dist
+        here : (p : PkgRecord) → reads channel subdir first ≡ Ok p → p ≡ pkg → (other : Entry) (q : PkgRecord)
+            → (other ≡ first) ⊎ IsIn other es → reads channel subdir other ≡ Ok q → q.dist ≡ pkg.dist
             → rank first.section first.file ≤ rank other.section other.file
-        here p is same other q (inl e) r d = subst (λ (x : Entry). rank first.section first.file ≤ rank x.section x.file) (sym e) (omega arith)
+        here p is same other q (inl e) r d =
+            subst (λ (x : Entry). rank first.section first.file ≤ rank x.section x.file) (sym e) (omega arith)
         here p is same other q (inr i) r d =
             lt-le (rank first.section first.file) (rank other.section other.file)
             (in_turn first other p q pkg.dist is r (ap (λ (x : PkgRecord). x.dist) same) d (of_each (Before first) other es order.0 i))
 
-        one : (p : PkgRecord) → reads channel subdir first ≡ Ok p → (b : Bool) → eq_by_cmp C pkg.dist p.dist ≡ b → cond b (Some p) (found pkg.dist es) ≡ Some pkg
+        one : (p : PkgRecord) → reads channel subdir first ≡ Ok p → (b : Bool) → eq_by_cmp C pkg.dist p.dist ≡ b
+            → cond b (Some p) (found pkg.dist es) ≡ Some pkg
             → (found pkg.dist es ≡ Some pkg → IsLeast es pkg) → IsLeast (first ∷ es) pkg
-        one p is true t e more = let same : p ≡ pkg = cc e in record { entry = first; is_in = inl refl; is = is ∙ ap Ok same; least = here p is same }
+        one p is true t e more =
+            let same : p ≡ pkg = cc e in record { entry = first; is_in = inl refl; is = is ∙ ap Ok same; least = here p is same }
         one p is false t e more =
-            behind_another first es pkg (λ q r d. let same : p ≡ q = cc (is, r) in untied pkg.dist p.dist t (sym d ∙ ap (λ (x : PkgRecord). x.dist) (sym same))) (more e)
+            behind_another first es pkg (λ q r d. let same : p ≡ q = cc (is, r) in untied pkg.dist p.dist t
+            (sym d ∙ ap (λ (x : PkgRecord). x.dist) (sym same))) (more e)
 
-        by : (r : Read PkgRecord RecordField) → reads channel subdir first ≡ r → at nat_list_cmp_total dist_of pkg.dist (if_read r (good es)) ≡ Some pkg
+        by : (r : Read PkgRecord RecordField) → reads channel subdir first ≡ r
+            → at nat_list_cmp_total dist_of pkg.dist (if_read r (good es)) ≡ Some pkg
             → (found pkg.dist es ≡ Some pkg → IsLeast es pkg) → IsLeast (first ∷ es) pkg
         by (Ok p) is e more = one p is (eq_by_cmp C pkg.dist p.dist) refl e more
         by (Err field) is e more = behind_another first es pkg (λ q r d. cc (is, r)) (more e)
@@ -132,19 +145,23 @@ module _ (channel subdir : List ℕ) where
         behind : IsIn l.entry es → IsLeast es pkg
         behind i = record { entry = l.entry; is_in = i; is = l.is; least = λ other p j r d. l.least other p (inr j) r d }
 
-        one : (p : PkgRecord) → reads channel subdir first ≡ Ok p → IsIn l.entry es → found pkg.dist es ≡ Some pkg → (b : Bool) → eq_by_cmp C pkg.dist p.dist ≡ b → cond b (Some p) (found pkg.dist es) ≡ Some pkg
+        one : (p : PkgRecord) → reads channel subdir first ≡ Ok p → IsIn l.entry es → found pkg.dist es ≡ Some pkg → (b : Bool)
+            → eq_by_cmp C pkg.dist p.dist ≡ b → cond b (Some p) (found pkg.dist es) ≡ Some pkg
         one p is i e true t =
             let d : p.dist ≡ pkg.dist = sym (tied pkg.dist p.dist t) in
             absurd (lt-not_le (rank first.section first.file) (rank l.entry.section l.entry.file)
-            (in_turn first l.entry p pkg pkg.dist is l.is d refl (of_each (Before first) l.entry es order.0 i)) (l.least first p (inl refl) is d))
+            (in_turn first l.entry p pkg pkg.dist is l.is d refl (of_each (Before first) l.entry es order.0 i))
+            (l.least first p (inl refl) is d))
         one p is i e false t = e
 
-        rest : (r : Read PkgRecord RecordField) → reads channel subdir first ≡ r → IsIn l.entry es → found pkg.dist es ≡ Some pkg → at nat_list_cmp_total dist_of pkg.dist (if_read r (good es)) ≡ Some pkg
+        rest : (r : Read PkgRecord RecordField) → reads channel subdir first ≡ r → IsIn l.entry es → found pkg.dist es ≡ Some pkg
+            → at nat_list_cmp_total dist_of pkg.dist (if_read r (good es)) ≡ Some pkg
         rest (Ok p) is i e = one p is i e (eq_by_cmp C pkg.dist p.dist) refl
         rest (Err field) is i e = e
 
         by : (l.entry ≡ first) ⊎ IsIn l.entry es → (IsLeast es pkg → found pkg.dist es ≡ Some pkg) → found pkg.dist (first ∷ es) ≡ Some pkg
-        by (inl e) more = ap (λ r. at nat_list_cmp_total dist_of pkg.dist (if_read r (good es))) (ap (reads channel subdir) (sym e) ∙ l.is) ∙ itself
+        by (inl e) more =
+            ap (λ r. at nat_list_cmp_total dist_of pkg.dist (if_read r (good es))) (ap (reads channel subdir) (sym e) ∙ l.is) ∙ itself
         by (inr i) more = rest (reads channel subdir first) refl i (more (behind i))
 
   -- ---- the entries that are none
@@ -166,9 +183,10 @@ module _ (channel subdir : List ℕ) where
   bad_is s no_members = refl
   bad_is s (member file value rest) = ap (if_unread s file (entry_read channel subdir file value)) (bad_is s rest)
 
-  unread_are : (packages conda : Members) → unread_of Section.PackagesConda channel subdir conda ++ unread_of Section.Packages channel subdir packages ≡ bad (walk packages conda)
+  unread_are : (packages conda : Members) → all_unread channel subdir packages conda ≡ bad (walk packages conda)
   unread_are packages conda =
-      ap (λ r. unread_of Section.PackagesConda channel subdir conda ++ r) (bad_is Section.Packages packages) ∙ bad-append Section.PackagesConda conda (entries_of Section.Packages packages)
+      ap (λ r. unread_of Section.PackagesConda channel subdir conda ++ r) (bad_is Section.Packages packages)
+      ∙ bad-append Section.PackagesConda conda (entries_of Section.Packages packages)
 
   abbrev missed : List ℕ × Section → List Entry → Option Unread
   missed place es = at place_total place_of place (bad es)
@@ -184,7 +202,8 @@ module _ (channel subdir : List ℕ) where
       later : IsMissed es u → IsMissed (first ∷ es) u
       later m = (m.0, inr m.1, m.2)
 
-      one : (field : RecordField) → reads channel subdir first ≡ Err field → (b : Bool) → cond b (Some (record { file = first.file; section = first.section; field = field })) (missed (place_of u) es) ≡ Some u
+      one : (field : RecordField) → reads channel subdir first ≡ Err field → (b : Bool)
+          → cond b (Some (record { file = first.file; section = first.section; field = field })) (missed (place_of u) es) ≡ Some u
           → (missed (place_of u) es ≡ Some u → IsMissed es u) → IsMissed (first ∷ es) u
       one field is true e more =
           let this : Unread = record { file = first.file; section = first.section; field = field } in
@@ -192,14 +211,16 @@ module _ (channel subdir : List ℕ) where
           subst (IsMissed (first ∷ es)) same (first.value, inl refl, is)
       one field is false e more = later (more e)
 
-      by : (r : Read PkgRecord RecordField) → reads channel subdir first ≡ r → at place_total place_of (place_of u) (if_unread first.section first.file r (bad es)) ≡ Some u
+      by : (r : Read PkgRecord RecordField) → reads channel subdir first ≡ r
+          → at place_total place_of (place_of u) (if_unread first.section first.file r (bad es)) ≡ Some u
           → (missed (place_of u) es ≡ Some u → IsMissed es u) → IsMissed (first ∷ es) u
       by (Ok p) is e more = later (more e)
       by (Err field) is e more = one field is (eq_by_cmp place_cmp (place_of u) (first.file, first.section)) e more
 
   -- no two entries stand at one place
   apart : (a b : Entry) → Before a b → b.file ≡ a.file → b.section ≡ a.section → ⊥
-  apart a b (inl h) file section = let tie : C a.file b.file ≡ Equal = ap (C a.file) file ∙ tied_itself nat_list_cmp_total a.file in cc (tie, h.1)
+  apart a b (inl h) file section =
+      let tie : C a.file b.file ≡ Equal = ap (C a.file) file ∙ tied_itself nat_list_cmp_total a.file in cc (tie, h.1)
   apart a b (inr h) file section = cc (section, h.0, h.1)
 
   is_missed : (es : List Entry) → InOrder es → (u : Unread) → IsMissed es u → missed (place_of u) es ≡ Some u
@@ -210,19 +231,24 @@ module _ (channel subdir : List ℕ) where
       here = ap (λ r. at place_total place_of (place_of u) (if_unread u.section u.file r (bad es))) m.2
           ∙ ap (λ o. cond (is_eq o) (Some u) (missed (place_of u) es)) (tied_itself place_total (place_of u))
 
-      one : (field : RecordField) → IsIn (entry_at u.section u.file m.0) es → missed (place_of u) es ≡ Some u → (b : Bool) → eq_by_cmp place_cmp (place_of u) (first.file, first.section) ≡ b
+      one : (field : RecordField) → IsIn (entry_at u.section u.file m.0) es → missed (place_of u) es ≡ Some u → (b : Bool)
+          → eq_by_cmp place_cmp (place_of u) (first.file, first.section) ≡ b
           → cond b (Some (record { file = first.file; section = first.section; field = field })) (missed (place_of u) es) ≡ Some u
       one field i e true t =
-          let same = place_exact (place_of u) (first.file, first.section) (is_equal (place_cmp (place_of u) (first.file, first.section)) t) in
+          let same =
+          place_exact (place_of u) (first.file, first.section) (is_equal (place_cmp (place_of u) (first.file, first.section)) t)
+          in
           absurd (apart first (entry_at u.section u.file m.0) (of_each (Before first) (entry_at u.section u.file m.0) es order.0 i)
           (ap (λ (p : List ℕ × Section). p.0) same) (ap (λ (p : List ℕ × Section). p.1) same))
       one field i e false t = e
 
-      rest : (r : Read PkgRecord RecordField) → IsIn (entry_at u.section u.file m.0) es → missed (place_of u) es ≡ Some u → at place_total place_of (place_of u) (if_unread first.section first.file r (bad es)) ≡ Some u
+      rest : (r : Read PkgRecord RecordField) → IsIn (entry_at u.section u.file m.0) es → missed (place_of u) es ≡ Some u
+          → at place_total place_of (place_of u) (if_unread first.section first.file r (bad es)) ≡ Some u
       rest (Ok p) i e = e
       rest (Err field) i e = one field i e (eq_by_cmp place_cmp (place_of u) (first.file, first.section)) refl
 
-      by : (entry_at u.section u.file m.0 ≡ first) ⊎ IsIn (entry_at u.section u.file m.0) es → (IsIn (entry_at u.section u.file m.0) es → missed (place_of u) es ≡ Some u) → missed (place_of u) (first ∷ es) ≡ Some u
+      by : (entry_at u.section u.file m.0 ≡ first) ⊎ IsIn (entry_at u.section u.file m.0) es
+          → (IsIn (entry_at u.section u.file m.0) es → missed (place_of u) es ≡ Some u) → missed (place_of u) (first ∷ es) ≡ Some u
       by (inl same) more = subst (λ e. missed (place_of u) (e ∷ es) ≡ Some u) same here
       by (inr i) more = rest (reads channel subdir first) i (more i)
 
@@ -231,27 +257,33 @@ module _ (channel subdir : List ℕ) where
 -- what is read of a field that may be absent
 abbrev section_of : Option Data → List ℕ → RepodataField → Read Members RepodataField
 section_of o name field =
-    or_fault (if option_map_or (λ value. not (is_absent Null.Bad value)) o false then ok_or (option_and_then as_object o) name >>= (λ members. Ok (Some members)) else Ok None) field
+    or_fault (if option_map_or (λ value. not (is_absent Null.Bad value)) o false then ok_or (option_and_then as_object o) name
+    >>= (λ members. Ok (Some members)) else Ok None) field
     >>= (λ members. Ok (unwrap_or members no_members))
 
 -- its members, and that their names ascend
 abbrev IsSection : Option Data → Members → Type 0
-IsSection o ms = ((file : List ℕ) → option_and_then (get file) o ≡ get_member file ms) × (((value : Data) → o ≡ Some value → KeysAscend value) → KeysAscendInMembers ms)
+IsSection o ms =
+    ((file : List ℕ) → option_and_then (get file) o ≡ get_member file ms)
+    × (((value : Data) → o ≡ Some value → KeysAscend value) → KeysAscendInMembers ms)
 
 section_is : (o : Option Data) (name : List ℕ) (field : RepodataField) (ms : Members) → section_of o name field ≡ Ok ms → IsSection o ms
-section_is None name field ms e = let same : no_members ≡ ms = cc e in (λ file. ap (get_member file) same, λ h. subst KeysAscendInMembers same tt)
+section_is None name field ms e =
+    let same : no_members ≡ ms = cc e in (λ file. ap (get_member file) same, λ h. subst KeysAscendInMembers same tt)
 section_is (Some null) name field ms e = cc e
 section_is (Some (boolean b)) name field ms e = cc e
 section_is (Some (number n)) name field ms e = cc e
 section_is (Some (string t)) name field ms e = cc e
 section_is (Some (array items)) name field ms e = cc e
-section_is (Some (object members)) name field ms e = let same : members ≡ ms = cc e in (λ file. ap (get_member file) same, λ h. subst KeysAscendInMembers same (h (object members) refl))
+section_is (Some (object members)) name field ms e =
+    let same : members ≡ ms = cc e in (λ file. ap (get_member file) same, λ h. subst KeysAscendInMembers same (h (object members) refl))
 
 member_ascends : (name : List ℕ) (value : Data) (ms : Members) → KeysAscendInMembers ms → get_member name ms ≡ Some value → KeysAscend value
 member_ascends name value no_members all e = cc e
 member_ascends name value (member next old rest) all e = by (C name next) e (member_ascends name value rest all.2)
   where
-    by : (o : Ordering) → match_ordering o (get_member name rest) (Some old) (get_member name rest) ≡ Some value → (get_member name rest ≡ Some value → KeysAscend value) → KeysAscend value
+    by : (o : Ordering) → match_ordering o (get_member name rest) (Some old) (get_member name rest) ≡ Some value
+        → (get_member name rest ≡ Some value → KeysAscend value) → KeysAscend value
     by Less e more = more e
     by Equal e more = let same : old ≡ value = cc e in subst KeysAscend same all.1
     by Greater e more = more e
@@ -264,21 +296,28 @@ field_ascends (string t) h name value e = cc e
 field_ascends (array items) h name value e = cc e
 field_ascends (object members) h name value e = member_ascends name value members h e
 
-ok_there : {A : Type 0} (r : Read (Option Members) A) (field : RepodataField) (ms : Members) → (or_fault r field >>= (λ members. Ok (unwrap_or members no_members))) ≡ Ok ms → IsOk r
+ok_there : {A : Type 0} (r : Read (Option Members) A) (field : RepodataField) (ms : Members)
+    → (or_fault r field >>= (λ members. Ok (unwrap_or members no_members))) ≡ Ok ms → IsOk r
 ok_there (Ok members) field ms e = refl
 ok_there (Err name) field ms e = cc e
 
-there_ok : {A : Type 0} (r : Read (Option Members) A) (field : RepodataField) → IsOk r → (ms : Members) × ((or_fault r field >>= (λ members. Ok (unwrap_or members no_members))) ≡ Ok ms)
+there_ok : {A : Type 0} (r : Read (Option Members) A) (field : RepodataField) → IsOk r
+    → (ms : Members) × ((or_fault r field >>= (λ members. Ok (unwrap_or members no_members))) ≡ Ok ms)
 there_ok (Ok members) field h = (unwrap_or members no_members, refl)
 there_ok (Err name) field h = cc h
 
 -- ---- the law
 
 module _ (law : RecordLaw) (channel subdir : List ℕ) (text : Data) (ascend : KeysAscend text) where
-  module _ (packages conda : Members) (first : section_read text Section.Packages ≡ Ok packages) (second : section_read text Section.PackagesConda ≡ Ok conda) where
+  module _ (packages conda : Members) (first : section_read text Section.Packages ≡ Ok packages)
+      (second : section_read text Section.PackagesConda ≡ Ok conda) where
     sections : (s : Section) → IsSection (get (section_name s) text) (members_at s packages conda)
-    sections Section.Packages = section_is (get (section_name Section.Packages) text) (section_name Section.Packages) (section_field Section.Packages) packages first
-    sections Section.PackagesConda = section_is (get (section_name Section.PackagesConda) text) (section_name Section.PackagesConda) (section_field Section.PackagesConda) conda second
+    sections Section.Packages =
+        section_is (get (section_name Section.Packages) text) (section_name Section.Packages)
+        (section_field Section.Packages) packages first
+    sections Section.PackagesConda =
+        section_is (get (section_name Section.PackagesConda) text) (section_name Section.PackagesConda)
+        (section_field Section.PackagesConda) conda second
 
     ascending_at : (s : Section) → KeysAscendInMembers (members_at s packages conda)
     ascending_at s = (sections s).1 (λ value e. field_ascends text ascend (section_name s) value e)
@@ -293,7 +332,9 @@ module _ (law : RecordLaw) (channel subdir : List ℕ) (text : Data) (ascend : K
     stands_in e h = entry_walked packages conda e.section e.file e.value (sym ((sections e.section).0 e.file) ∙ h)
 
     in_stands : (e : Entry) → IsIn e (walk packages conda) → IsEntry text e
-    in_stands e i = (sections e.section).0 e.file ∙ walked_entry packages conda (ascending_at Section.Packages) (ascending_at Section.PackagesConda) e.section e.file e.value i
+    in_stands e i =
+        (sections e.section).0 e.file ∙ walked_entry packages conda (ascending_at Section.Packages)
+        (ascending_at Section.PackagesConda) e.section e.file e.value i
 
     taken_least : (pkg : PkgRecord) → IsTaken text channel subdir pkg → IsLeast channel subdir (walk packages conda) pkg
     taken_least pkg t = record {
@@ -311,38 +352,52 @@ module _ (law : RecordLaw) (channel subdir : List ℕ) (text : Data) (ascend : K
       first = λ other p s r d. l.least other p (stands_in other s) r d;
     }
 
-    recs : List PkgRecord
-    recs = records_of channel subdir conda ++ records_of channel subdir packages
+    -- the records and the entries that are none, in order
+    abbrev recs : List PkgRecord
+    recs = ascending C dist_of (all_records channel subdir packages conda)
 
-    taken : (pkg : PkgRecord) → Contains (ascending C dist_of (records_of channel subdir conda ++ records_of channel subdir packages)) pkg ↔ IsTaken text channel subdir pkg
+    abbrev unread : List Unread
+    unread = ascending place_cmp place_of (all_unread channel subdir packages conda)
+
+    by_dist : IsStrictlySortedBy C (map dist_of recs)
+    by_dist = ascends nat_list_cmp_total dist_of exact_bytes (all_records channel subdir packages conda)
+
+    by_file : IsStrictlySortedBy place_cmp (map place_of unread)
+    by_file = ascends place_total place_of place_exact (all_unread channel subdir packages conda)
+
+    taken : (pkg : PkgRecord) → Contains recs pkg ↔ IsTaken text channel subdir pkg
     taken pkg =
-        let all = records_of channel subdir conda ++ records_of channel subdir packages in
-        let has = contains_at nat_list_cmp_total dist_of (ascending C dist_of all) (ascends nat_list_cmp_total dist_of exact_bytes all) pkg in
-        let same : at nat_list_cmp_total dist_of pkg.dist (ascending C dist_of all) ≡ found channel subdir pkg.dist (walk packages conda) =
-        first_kept nat_list_cmp_total dist_of exact_bytes all pkg.dist ∙ ap (at nat_list_cmp_total dist_of pkg.dist) (records_are channel subdir packages conda) in (
+        let has = contains_at nat_list_cmp_total dist_of recs by_dist pkg in
+        let same : at nat_list_cmp_total dist_of pkg.dist recs ≡ found channel subdir pkg.dist (walk packages conda) =
+        first_kept nat_list_cmp_total dist_of exact_bytes (all_records channel subdir packages conda) pkg.dist
+        ∙ ap (at nat_list_cmp_total dist_of pkg.dist) (records_are channel subdir packages conda)
+        in (
           λ c. least_taken pkg (found_least channel subdir law (walk packages conda) order pkg (sym same ∙ has.0 c)),
           λ t. has.1 (same ∙ least_found channel subdir law (walk packages conda) order pkg (taken_least pkg t)),
         )
 
-    set_aside : (u : Unread) → Contains (ascending place_cmp place_of (unread_of Section.PackagesConda channel subdir conda ++ unread_of Section.Packages channel subdir packages)) u ↔ IsUnread text channel subdir u
+    set_aside : (u : Unread) → Contains unread u ↔ IsUnread text channel subdir u
     set_aside u =
-        let all = unread_of Section.PackagesConda channel subdir conda ++ unread_of Section.Packages channel subdir packages in
-        let has = contains_at place_total place_of (ascending place_cmp place_of all) (ascends place_total place_of place_exact all) u in
-        let same : at place_total place_of (place_of u) (ascending place_cmp place_of all) ≡ missed channel subdir (place_of u) (walk packages conda) =
-        first_kept place_total place_of place_exact all (place_of u) ∙ ap (at place_total place_of (place_of u)) (unread_are channel subdir packages conda) in (
-          λ c. let m = missed_is channel subdir (walk packages conda) u (sym same ∙ has.0 c) in (m.0, in_stands (entry_at u.section u.file m.0) m.1, m.2),
-          λ t. has.1 (same ∙ is_missed channel subdir (walk packages conda) order u (t.0, stands_in (entry_at u.section u.file t.0) t.1, t.2)),
+        let has = contains_at place_total place_of unread by_file u in
+        let same : at place_total place_of (place_of u) unread ≡ missed channel subdir (place_of u) (walk packages conda) =
+        first_kept place_total place_of place_exact (all_unread channel subdir packages conda) (place_of u)
+        ∙ ap (at place_total place_of (place_of u)) (unread_are channel subdir packages conda)
+        in (
+          λ c. let m = missed_is channel subdir (walk packages conda) u (sym same ∙ has.0 c) in
+              (m.0, in_stands (entry_at u.section u.file m.0) m.1, m.2),
+          λ t. has.1 (same ∙ is_missed channel subdir (walk packages conda) order u
+              (t.0, stands_in (entry_at u.section u.file t.0) t.1, t.2)),
         )
 
     meant : IsRepodata text channel subdir (repodata_with channel subdir packages conda)
     meant = record {
-      unread = ascending place_cmp place_of (unread_of Section.PackagesConda channel subdir conda ++ unread_of Section.Packages channel subdir packages);
+      unread = unread;
       packages = ok_there (optional object_at Null.Bad (codes "packages") text) RepodataField.Packages packages first;
       packages_conda = ok_there (optional object_at Null.Bad (codes "packages.conda") text) RepodataField.PackagesConda conda second;
       taken = taken;
-      by_dist = ascends nat_list_cmp_total dist_of exact_bytes (records_of channel subdir conda ++ records_of channel subdir packages);
+      by_dist = by_dist;
       set_aside = set_aside;
-      by_file = ascends place_total place_of place_exact (unread_of Section.PackagesConda channel subdir conda ++ unread_of Section.Packages channel subdir packages);
+      by_file = by_file;
       shown = refl;
     }
 
@@ -367,7 +422,10 @@ module _ (law : RecordLaw) (channel subdir : List ℕ) (text : Data) (ascend : K
 
   read_means : (made : Repodata) → repodata_of text channel subdir ≡ Ok made → IsRepodata text channel subdir made
   read_means made e =
-      let p = bound (section_read text Section.Packages) (λ packages. section_read text Section.PackagesConda >>= (λ conda. Ok (repodata_with channel subdir packages conda))) made e in
+      let p =
+      bound (section_read text Section.Packages) (λ packages. section_read text Section.PackagesConda
+      >>= (λ conda. Ok (repodata_with channel subdir packages conda))) made e
+      in
       let q = bound (section_read text Section.PackagesConda) (λ conda. Ok (repodata_with channel subdir p.0 conda)) made p.2 in
       let same : repodata_with channel subdir p.0 q.0 ≡ made = cc q.2 in
       subst (IsRepodata text channel subdir) same (meant p.0 q.0 p.1 q.1)
@@ -376,19 +434,22 @@ module _ (law : RecordLaw) (channel subdir : List ℕ) (text : Data) (ascend : K
   meant_reads made h =
       let p = there_ok (optional object_at Null.Bad (codes "packages") text) RepodataField.Packages h.packages in
       let q = there_ok (optional object_at Null.Bad (codes "packages.conda") text) RepodataField.PackagesConda h.packages_conda in
-      ap (λ r. r >>= (λ packages. section_read text Section.PackagesConda >>= (λ conda. Ok (repodata_with channel subdir packages conda)))) p.1
+      ap (λ r. r >>= (λ packages. section_read text Section.PackagesConda
+      >>= (λ conda. Ok (repodata_with channel subdir packages conda)))) p.1
       ∙ ap (λ r. r >>= (λ conda. Ok (repodata_with channel subdir p.0 conda))) q.1
       ∙ ap Ok (unique (repodata_with channel subdir p.0 q.0) made (meant p.0 q.0 p.1 q.1) h)
 
   pub repodata_law : (made : Repodata) → (repodata_of text channel subdir ≡ Ok made) ↔ IsRepodata text channel subdir made
   repodata_law made = (read_means made, meant_reads made)
 
-pub bytes_law : RecordLaw → ((bytes : List ℕ) (text : Data) → object_read bytes ≡ Ok text → KeysAscend text) → (bytes channel subdir : List ℕ) (made : Repodata)
+pub bytes_law : RecordLaw → ((bytes : List ℕ) (text : Data) → object_read bytes ≡ Ok text → KeysAscend text)
+    → (bytes channel subdir : List ℕ) (made : Repodata)
     → (repodata_read bytes channel subdir ≡ Ok made) ↔ ((text : Data) × (object_read bytes ≡ Ok text) × IsRepodata text channel subdir made)
 bytes_law law ascend bytes channel subdir made =
     let read_on : Data → Read Repodata RepodataField = λ text. repodata_of text channel subdir in (
       λ e. let all = bound (or_fault (object_read bytes) RepodataField.Json) read_on made e in
           let text = cleared (object_read bytes) RepodataField.Json all.0 all.1 in
           (all.0, text, (repodata_law law channel subdir all.0 (ascend bytes all.0 text) made).0 all.2),
-      λ h. ap (λ r. or_fault r RepodataField.Json >>= read_on) h.1 ∙ (repodata_law law channel subdir h.0 (ascend bytes h.0 h.1) made).1 h.2,
+      λ h. ap (λ r. or_fault r RepodataField.Json >>= read_on) h.1
+          ∙ (repodata_law law channel subdir h.0 (ascend bytes h.0 h.1) made).1 h.2,
     )

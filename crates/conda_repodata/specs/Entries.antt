@@ -21,7 +21,7 @@ section_name Section.PackagesConda = codes "packages.conda"
 
 -- ---- what an entry says
 
--- A timestamp, which is given in seconds up to the last one of the year 9999, and else in milliseconds.
+-- A timestamp in milliseconds. Up to the last second of the year 9999 it is given in seconds, which is this project's own rule.
 abbrev pub in_milliseconds : ℕ → ℕ
 in_milliseconds timestamp = if nat_le timestamp 253402300799 then timestamp * 1000 else timestamp
 
@@ -29,15 +29,15 @@ in_milliseconds timestamp = if nat_le timestamp 253402300799 then timestamp * 10
 abbrev pub dated : PkgRecord → PkgRecord
 dated pkg = record pkg { timestamp = in_milliseconds pkg.timestamp }
 
--- the record that the entry of a package file is, or the first field that is bad
+-- the record that an entry is, the name of its file with an ending, or the first field that is bad
 abbrev pub entry_read : List ℕ → List ℕ → List ℕ → Data → Read PkgRecord RecordField
 entry_read channel subdir file value =
     if is_some (cut_ending file) then record_read value file channel subdir >>= (λ pkg. Ok (dated pkg)) else Err RecordField.Fn
 
 -- ---- their orders
 
--- Of entries of one dist the one of the least rank is taken: one in `packages.conda` before one in `packages`, and in one object a `.conda` file
--- before a `.tar.bz2` file.
+-- Of the entries of one dist that of the least rank is taken: one in `packages.conda` before one in `packages`, and in one object a
+-- `.conda` file before a `.tar.bz2` file.
 abbrev pub rank : Section → List ℕ → ℕ
 rank Section.PackagesConda file = if ends_with nat_eq file (codes ".conda") then 0 else 1
 rank Section.Packages file = if ends_with nat_eq file (codes ".conda") then 2 else 3

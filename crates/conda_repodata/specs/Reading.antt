@@ -1,5 +1,5 @@
--- The reader as a function: the entries of `packages.conda`, then those of `packages`, in the order of their files. So of the entries of one dist
--- that are read the first is the one to be taken.
+-- The reader as a function: the entries of `packages.conda`, then those of `packages`, in the order of their files. So of the entries of
+-- one dist that are read the first is the one to be taken.
 use Rattle.std.specs.Prelude.{ℕ, List, [], ◌∷◌, ◌++◌, map, Option, None, Some, unwrap_or, Ok, Err}
 use Rattle.std.specs.Ordering.{nat_cmp}
 use Rattle.std.specs.Cmp.Lexicographic.{slice_cmp}
@@ -31,7 +31,8 @@ section_field Section.PackagesConda = RepodataField.PackagesConda
 -- the members of the object; none where it is absent
 abbrev pub section_read : Data → Section → Read Members RepodataField
 section_read text section =
-    or_fault (optional object_at Null.Bad (section_name section) text) (section_field section) >>= (λ found. Ok (unwrap_or found no_members))
+    or_fault (optional object_at Null.Bad (section_name section) text) (section_field section) >>= (λ found.
+    Ok (unwrap_or found no_members))
 
 -- a record, in front of others, where an entry is one
 abbrev pub if_read : Read PkgRecord RecordField → List PkgRecord → List PkgRecord
@@ -54,11 +55,20 @@ unread_of section channel subdir no_members = []
 unread_of section channel subdir (member file value rest) =
     if_unread section file (entry_read channel subdir file value) (unread_of section channel subdir rest)
 
+-- the records of both objects' entries
+abbrev pub all_records : List ℕ → List ℕ → Members → Members → List PkgRecord
+all_records channel subdir packages conda = records_of channel subdir conda ++ records_of channel subdir packages
+
+-- the entries of both that are none
+abbrev pub all_unread : List ℕ → List ℕ → Members → Members → List Unread
+all_unread channel subdir packages conda =
+    unread_of Section.PackagesConda channel subdir conda ++ unread_of Section.Packages channel subdir packages
+
 -- what the members of the two objects mean
 abbrev pub repodata_with : List ℕ → List ℕ → Members → Members → Repodata
 repodata_with channel subdir packages conda = record {
-  recs = ascending (slice_cmp nat_cmp) dist_of (records_of channel subdir conda ++ records_of channel subdir packages);
-  aside = map aside_of (ascending place_cmp place_of (unread_of Section.PackagesConda channel subdir conda ++ unread_of Section.Packages channel subdir packages));
+  recs = ascending (slice_cmp nat_cmp) dist_of (all_records channel subdir packages conda);
+  aside = map aside_of (ascending place_cmp place_of (all_unread channel subdir packages conda));
 }
 
 -- what an object means for the subdir of a channel

@@ -25,7 +25,7 @@ pub record Entry : Type 0 where
 abbrev pub IsEntry : Data → Entry → Type 0
 IsEntry text entry = option_and_then (get entry.file) (get (section_name entry.section) text) ≡ Some entry.value
 
--- an entry is read as this record, and none of its dist that is read as one comes before that entry
+-- an entry is read as this record, and of those of its dist that are read as records none has a lesser rank
 pub record IsTaken (text : Data) (channel subdir : List ℕ) (pkg : PkgRecord) : Type 0 where
   pub entry : Entry
   pub stands : IsEntry text entry
@@ -33,14 +33,14 @@ pub record IsTaken (text : Data) (channel subdir : List ℕ) (pkg : PkgRecord) :
   pub first : (other : Entry) (found : PkgRecord) → IsEntry text other → entry_read channel subdir other.file other.value ≡ Ok found
       → found.dist ≡ pkg.dist → rank entry.section entry.file ≤ rank other.section other.file
 
--- it is an entry that is no record, for the first field that is bad
+-- an entry stands at this place that isn't read as a record, and this field is first wrong with it
 abbrev pub IsUnread : Data → List ℕ → List ℕ → Unread → Type 0
 IsUnread text channel subdir unread =
     (value : Data) × IsEntry text (record { section = unread.section; file = unread.file; value = value })
     × (entry_read channel subdir unread.file value ≡ Err unread.field)
 
--- The text has each of the two objects, unless it is absent. There is a record for each dist of which an entry is one, ascending by dist, and each
--- other entry is set aside, ascending by file name, those of `packages` first where two are equal.
+-- Each of the two objects is one, unless it is absent. There is a record of each dist of which an entry is read as one, ascending by dist.
+-- Each entry that isn't read as one is set aside, ascending by file name, that of `packages` first where two are equal.
 pub record IsRepodata (text : Data) (channel subdir : List ℕ) (repodata : Repodata) : Type 0 where
   pub unread : List Unread
   pub packages : IsOk (optional object_at Null.Bad (codes "packages") text)

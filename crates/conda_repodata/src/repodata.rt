@@ -4,7 +4,8 @@ ghost use Rattle.std.specs.Result.{result_map_both};
 ghost use Rattle.serde_json.specs.Data.{no_members};
 ghost use Rattle.serde_json.specs.View.{members_view, view};
 ghost use Rattle.conda_base.specs.Reads.{Gives};
-ghost use Rattle.conda_repodata.specs.Reading.{repodata_fault_of, repodata_of, repodata_read, section_read};
+ghost use Rattle.conda_repodata.specs.Reading.{repodata_fault_of, repodata_of, repodata_read};
+ghost use Rattle.conda_repodata.specs.Reading.{section_read};
 
 use crate::aside::{Aside, Section};
 use crate::error::{RepodataErr, RepodataField};
@@ -20,7 +21,8 @@ use std::alloc::{AllocError, Global};
 pub struct Repodata {
     /// The records, ascending by their dists, none of which stands twice.
     pub recs: Rows<PkgRecord>,
-    /// The entries that are no records, ascending by the names of their files. A name may stand twice, once of each object.
+    /// The entries that are no records, ascending by the names of their files. A name may stand
+    /// twice, once of each object.
     pub aside: Rows<Aside>,
 }
 
@@ -31,12 +33,12 @@ impl Copied for Repodata {
 }
 
 /// The members of one of the two objects, if it is there.
-fn members_of(value: &Value, section: Section) -> Result<Option<&Map<String, Value>>, RepodataErr>
+fn members(value: &Value, object: Section) -> Result<Option<&Map<String, Value>>, RepodataErr>
     ensures { Gives repodata_fault_of (result_map_both (λ found.
         unwrap_or (option_map (λ map. members_view map.now.entries) found) no_members) (λ e. e) result)
-        (section_read (view value.now) section) }
+        (section_read (view value.now) object) }
 {
-    let (name, field) = match section {
+    let (name, field) = match object {
         Section::Packages => ("packages", RepodataField::Packages),
         Section::PackagesConda => ("packages.conda", RepodataField::PackagesConda),
     };
@@ -56,8 +58,8 @@ fn read_object(
     ensures { Gives repodata_fault_of result
         (repodata_of (view value.now) channel.now subdir.now) }
 {
-    let packages = members_of(value, Section::Packages)?;
-    let conda = members_of(value, Section::PackagesConda)?;
+    let packages = members(value, Section::Packages)?;
+    let conda = members(value, Section::PackagesConda)?;
     let mut found = Found::new(alloc);
     if let Some(members) = conda {
         found.walk(alloc, Section::PackagesConda, members, channel, subdir)?;
@@ -78,16 +80,18 @@ fn read_object(
 }
 
 impl Repodata {
-    /// Reads the text `repodata.json` of a subdir of a channel: an object in which `packages` and `packages.conda`, where
-    /// they are there, are objects from the names of package files to records. Other fields are passed over.
+    /// Reads the text `repodata.json` of a subdir of a channel: an object in which `packages` and
+    /// `packages.conda`, where they are there, are objects from the names of package files to
+    /// records. Other fields are passed over.
     ///
-    /// An entry whose file name isn't a dist followed by `.tar.bz2` or `.conda` is set aside with the field `fn`, and each
-    /// other that `PkgRecord::read` refuses with that one's field. Of several records of one dist one in `packages.conda`
-    /// is taken before one in `packages`, and in one object one whose file name ends with `.conda`. A timestamp of at most
-    /// 253402300799 is in seconds, and becomes one in milliseconds.
+    /// An entry whose file name isn't a dist followed by `.tar.bz2` or `.conda` is set aside with
+    /// the field `fn`, and each other that `PkgRecord::read` refuses with the field that it names.
+    /// Of several records of one dist one in `packages.conda` is taken before one in `packages`,
+    /// and in one object the one whose file name ends with `.conda`; the rest are passed over. A
+    /// timestamp of at most 253402300799 is in seconds, and is made one in milliseconds.
     ///
-    /// `BadRepodata` has `json` where the bytes are no JSON object, and else the first of the two objects that is there
-    /// and is none.
+    /// `BadRepodata` has `json` where the bytes are no JSON object, and else the first of the two
+    /// objects that is there and is none.
     pub fn read(
         alloc: Global,
         bytes: &[u8],

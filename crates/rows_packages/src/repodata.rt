@@ -14,8 +14,8 @@ pub fn answer(alloc: Global, call: &str, arguments: &[Text]) -> Result<Option<St
     }
 }
 
-/// Of each record its key, build number and timestamp, and of each entry that is set aside the file and the field; or the
-/// fault of the text.
+/// Of each record its key, build number and timestamp, and of each entry that is set aside the file
+/// and the field; or the fault of the text.
 fn shown(alloc: Global, read: Result<Repodata, RepodataErr>) -> Result<String, AllocError> {
     let repodata = match read {
         Ok(repodata) => repodata.copy()?,
