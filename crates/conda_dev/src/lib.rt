@@ -12,8 +12,9 @@ mod streams;
 mod tree;
 
 pub use clock::FixedClock;
-pub use conda_device::{Abilities, Clock, DeviceErr, Failed, FaultCount, Host, In, Lane, Out, Seen};
-pub use conda_device::tree_laws;
+pub use conda_device::{
+    Abilities, Clock, DeviceErr, Failed, FaultCount, Host, In, Lane, Out, Seen, tree_laws,
+};
 pub use fault::{Effect, FailAt, Target};
 pub use mem_host::MemHost;
 pub use mem_lane::MemLane;

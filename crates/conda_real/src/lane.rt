@@ -1,7 +1,7 @@
 ghost use Rattle.std.specs.Prelude.{◌≡◌, ◌≤◌};
 
-use crate::places::{Found, found_at, is_behind_link};
 use crate::coming::{Coming, bring, drop_empty, make};
+use crate::places::{Found, found_at, is_behind_link};
 use crate::reading::{node_at, seen_at};
 use crate::refusal::{done, refused};
 use crate::share::Share;
@@ -83,8 +83,7 @@ impl<R: Files + AllocGlobal + Clone + Drop> RealLane<R> {
 
     /// The file of the cache that a path names.
     fn cached(&self, from: &StorePath) -> Result<String, AllocError> {
-        format!(
-            in self.rt.alloc();
+        format!(in self.rt.alloc();
             "{}/{}/{}/{}/{}",
             self.pkgs.as_str(),
             from.key.channel.as_str(),
@@ -171,12 +170,7 @@ impl<R: Files + AllocGlobal + Clone + Send + Drop> Lane for RealLane<R> {
     }
 
     fn paths(&mut self, alloc: Global) -> Result<Vec<RelPath>, DeviceErr> {
-        let found = paths_below(
-            alloc,
-            &self.rt,
-            self.folder.as_str(),
-            &self.share,
-        );
+        let found = paths_below(alloc, &self.rt, self.folder.as_str(), &self.share);
         Ok(done(found, &mut self.faults)?)
     }
 

@@ -75,9 +75,12 @@ pub fn is_behind_link(rt: &impl Files, folder: &str, place: &str) -> io::Result<
         if parent.len() <= folder.len() {
             return Ok(false);
         }
-        if let Found::Node(Seen {
-            kind: Kind::Soft, ..
-        }) = found_at(rt, parent)?
+        if let Found::Node(
+            Seen {
+                kind: Kind::Soft,
+                ..
+            },
+        ) = found_at(rt, parent)?
         {
             return Ok(true);
         }

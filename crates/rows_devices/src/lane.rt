@@ -3,13 +3,18 @@ ghost use Rattle.std.specs.Prelude.{◌≡◌, false, IfOk};
 use conda_dev::{Abilities, Host, Lane, MemHost, MemLane};
 use conda_path::Prefix;
 use rows_plan::{
-    cached, effect_of, node_of, path_of, plan_of, shown_abilities, shown_node, shown_paths, shown_seen,
-    shown_tree, target_of, tree_of, word,
+    cached, effect_of, node_of, path_of, plan_of, shown_abilities, shown_node, shown_paths,
+    shown_seen, shown_tree, target_of, tree_of, word,
 };
 use std::alloc::{AllocError, Global};
 
 /// A call that puts a node where none is, which the lane asks of its callers.
-fn put(alloc: Global, lane: &mut MemLane, is_hard: bool, rest: &str) -> Result<&'static str, AllocError>
+fn put(
+    alloc: Global,
+    lane: &mut MemLane,
+    is_hard: bool,
+    rest: &str,
+) -> Result<&'static str, AllocError>
     requires number { lane.old.number ≡ 0 }
     requires lanes { lane.old.lanes ≡ 1 }
     ensures number { lane.new.number ≡ 0 }

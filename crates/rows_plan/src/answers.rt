@@ -34,7 +34,10 @@ pub fn cached(alloc: Global, path: &RelPath) -> Result<Option<StorePath>, AllocE
 }
 
 /// What a call that gives paths came to.
-pub fn shown_paths<E: Drop>(alloc: Global, paths: Result<Vec<RelPath>, E>) -> Result<String, AllocError> {
+pub fn shown_paths<E: Drop>(
+    alloc: Global,
+    paths: Result<Vec<RelPath>, E>,
+) -> Result<String, AllocError> {
     let Ok(paths) = paths else {
         return String::from_str(alloc, "failed");
     };
@@ -49,7 +52,10 @@ pub fn shown_paths<E: Drop>(alloc: Global, paths: Result<Vec<RelPath>, E>) -> Re
 }
 
 /// What a look came to.
-pub fn shown_seen<E: Drop>(alloc: Global, seen: Result<Option<Seen>, E>) -> Result<String, AllocError> {
+pub fn shown_seen<E: Drop>(
+    alloc: Global,
+    seen: Result<Option<Seen>, E>,
+) -> Result<String, AllocError> {
     match seen {
         Ok(Some(seen)) => {
             let kind = kind_word(seen.kind);
@@ -62,7 +68,10 @@ pub fn shown_seen<E: Drop>(alloc: Global, seen: Result<Option<Seen>, E>) -> Resu
 }
 
 /// What a read came to.
-pub fn shown_node<E: Drop>(alloc: Global, read: Result<Option<Node>, E>) -> Result<String, AllocError> {
+pub fn shown_node<E: Drop>(
+    alloc: Global,
+    read: Result<Option<Node>, E>,
+) -> Result<String, AllocError> {
     match read {
         Ok(Some(node)) => {
             let kind = kind_word(node.kind);
