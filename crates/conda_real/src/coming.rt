@@ -96,7 +96,8 @@ fn make_once(rt: &impl Files, place: &str, node: &Node) -> io::Result<()> {
     write_whole(&mut file, bytes)
 }
 
-/// Makes a file or a soft link at a temporary place. A missing folder is made, and what an earlier run left gives way.
+/// Makes a file or a soft link at a temporary place. A missing folder is made, and what an earlier
+/// run left gives way.
 fn make_temporary(rt: &impl Files, place: &str, node: &Node) -> io::Result<()> {
     for _ in 0..TRIES {
         match make_once(rt, place, node) {
@@ -108,7 +109,8 @@ fn make_temporary(rt: &impl Files, place: &str, node: &Node) -> io::Result<()> {
     Err(io::Error::from(ErrorKind::NotFound))
 }
 
-/// Makes a file or a soft link at a temporary place and brings it to its own. After an error neither is there.
+/// Makes a file or a soft link at a temporary place and brings it to its own. After an error
+/// neither is there.
 pub fn make(rt: &impl Files, temporary: &str, place: &str, node: &Node) -> io::Result<()> {
     let mut made = make_temporary(rt, temporary, node);
     if made.is_ok() {

@@ -71,7 +71,8 @@ impl<R: Files + AllocGlobal + Clone + Drop> RealLane<R> {
         Ok(place)
     }
 
-    /// The temporary place in the folder of a place. Its name is no path of a tree, and no other lane has it.
+    /// The temporary place in the folder of a place. Its name is no path of a tree, and no other
+    /// lane has it.
     fn temporary(&self, place: &str) -> Result<String, AllocError> {
         let folder = match place.rsplit_once('/') {
             Some((folder, _)) => folder,

@@ -64,8 +64,8 @@ pub fn found_at(rt: &impl Files, place: &str) -> io::Result<Found> {
     }
 }
 
-/// Whether one of the folders of a place below this folder is a soft link. What lies behind it isn't part of the
-/// tree.
+/// Whether one of the folders of a place below this folder is a soft link. What lies behind it
+/// isn't part of the tree.
 pub fn is_behind_link(rt: &impl Files, folder: &str, place: &str) -> io::Result<bool> {
     let mut rest = place;
     for _ in 0..PARTS {

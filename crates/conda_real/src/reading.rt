@@ -19,7 +19,8 @@ const CHUNK: u64 = 131_072;
 /// More than the bytes of a soft link's target on the machine.
 const TARGET: usize = 4_096;
 
-/// The node that a tree has at a place below a folder. What lies behind a soft link isn't part of it.
+/// The node that a tree has at a place below a folder. What lies behind a soft link isn't part of
+/// it.
 pub fn seen_at(
     rt: &impl Files,
     folder: &str,
@@ -91,8 +92,8 @@ fn read_by<F: Read>(
     Err(DeviceErr::from(refused(faults)))
 }
 
-/// At most the first `max` bytes of a reader: all that it has, or `max`. The buffer has room for the
-/// bytes that are likely there, and one more.
+/// At most the first `max` bytes of a reader: all that it has, or `max`. The buffer has room for
+/// the bytes that are likely there, and one more.
 pub fn read_first<F: Read>(
     alloc: Global,
     file: &mut F,

@@ -35,7 +35,8 @@ fn path_of(alloc: Global, text: &str) -> Result<Option<RelPath>, AllocError> {
     }
 }
 
-/// Notes what stands at a path. What is no path of a tree is passed over, and so is what lies below.
+/// Notes what stands at a path. What is no path of a tree is passed over, and so is what lies
+/// below.
 fn note(alloc: Global, walk: &mut Walk, text: String, stands: Found) -> Result<(), AllocError> {
     if matches!(stands, Found::Nothing | Found::Other) {
         return Ok(());

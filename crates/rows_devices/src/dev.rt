@@ -10,8 +10,8 @@ use rows_plan::{kind_word, plan_of, tree_of};
 use rows_text::shown;
 use std::alloc::{AllocError, Global};
 
-/// The rows of conda_dev. The first argument is a plan of failing calls, the second of `lane` and `host` a tree of
-/// nodes `PATH KIND TEXT`, parted by `;`.
+/// The rows of conda_dev. The first argument is a plan of failing calls, the second of `lane` and
+/// `host` a tree of nodes `PATH KIND TEXT`, parted by `;`.
 pub fn answer(alloc: Global, call: &str, arguments: &[Text]) -> Result<Option<String>, AllocError> {
     match (call, arguments) {
         ("lane.look", [plan, tree, paths]) => {
@@ -80,7 +80,8 @@ fn look_in_lane(
     Ok(Some(made))
 }
 
-/// Lends a prefix, looks at a path in the first lane where it is the only one, and takes the prefix back.
+/// Lends a prefix, looks at a path in the first lane where it is the only one, and takes the prefix
+/// back.
 fn look_once<H: Host>(
     alloc: Global,
     host: &mut H,

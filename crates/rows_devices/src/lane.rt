@@ -196,7 +196,8 @@ fn has(words: &str, asked: &str) -> bool {
     words.split_whitespace().any(|word| word == asked)
 }
 
-/// Makes calls of the only lane of a host whose target fails from a call on, and whose lanes can do what is said.
+/// Makes calls of the only lane of a host whose target fails from a call on, and whose lanes can do
+/// what is said.
 pub fn run_in_host(
     alloc: Global,
     stop: &str,

@@ -2,8 +2,8 @@ use conda_base::{Copied, Rows, Text};
 use conda_core::{Core, CoreEnv, CoreErr, Event, SlotOp, SlotState, View, Word, slot_next};
 use std::alloc::{AllocError, Global};
 
-/// The rows of conda_core. Events are parted by `;`: `slot SEAT SLOT STEP`, `lock ENV SEAT`, `commit ENV SLOT..`, and
-/// `begin`, `undo`, `break`, `mend` and `unlock` with ENV.
+/// The rows of conda_core. Events are parted by `;`: `slot SEAT SLOT STEP`, `lock ENV SEAT`,
+/// `commit ENV SLOT..`, and `begin`, `undo`, `break`, `mend` and `unlock` with ENV.
 pub fn answer(alloc: Global, call: &str, arguments: &[Text]) -> Result<Option<String>, AllocError> {
     match (call, arguments) {
         ("core.run", [slots, seats, envs, events]) => {

@@ -11,9 +11,9 @@ use std::alloc::{AllocError, Global};
 use std::fs;
 use std::rt::Files;
 
-/// Runs calls, parted by `;`, on the only lane of the prefix `/e`, for which a folder stands with these things in it: those
-/// below `e/` are the prefix's, those below `pkgs/` the cache's. The answers, the count of faults, and all that lies in the
-/// folder afterwards.
+/// Runs calls, parted by `;`, on the only lane of the prefix `/e`, for which a folder stands with
+/// these things in it: those below `e/` are the prefix's, those below `pkgs/` the cache's. The
+/// answers, the count of faults, and all that lies in the folder afterwards.
 pub fn answer<R: Files + AllocGlobal + Clone + Send + Drop>(
     alloc: Global,
     rt: &R,

@@ -1,4 +1,5 @@
-//! The rows of the devices of the machine, over folders that the program makes in the machine's temporary folder.
+//! The rows of the devices of the machine, over folders that the program makes in the machine's
+//! temporary folder.
 #![tactic(auto)]
 
 mod lane;

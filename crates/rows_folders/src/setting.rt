@@ -4,8 +4,8 @@ use std::io;
 use std::os::unix::fs::{PermissionsExt, symlink};
 use std::rt::Files;
 
-/// Makes what a text says below a folder, parted by `;`: `folder PATH`, `file PATH TEXT`, `exec PATH TEXT` or
-/// `soft PATH TARGET`. Folders on the way are made.
+/// Makes what a text says below a folder, parted by `;`: `folder PATH`, `file PATH TEXT`, `exec
+/// PATH TEXT` or `soft PATH TARGET`. Folders on the way are made.
 pub fn make_things(alloc: Global, rt: &impl Files, top: &str, things: &str) -> io::Result<()> {
     fs::create_dir_all(rt, top)?;
     for thing in things.split(';') {
@@ -46,8 +46,8 @@ fn make_thing(
     }
 }
 
-/// All that lies below a folder, in the order of names: a folder ends with `/`, an executable file with `*`, and a soft link
-/// is followed by `>`. A control character is shown as `?`.
+/// All that lies below a folder, in the order of names: a folder ends with `/`, an executable file
+/// with `*`, and a soft link is followed by `>`. A control character is shown as `?`.
 pub fn listing<R: Files + AllocGlobal + Clone + Drop>(
     alloc: Global,
     rt: &R,

@@ -1,4 +1,5 @@
-//! Plans of failing calls, nodes, trees and answers as text, for the rows of devices and of whole commands.
+//! Plans of failing calls, nodes, trees and answers as text, for the rows of devices and of whole
+//! commands.
 #![tactic(auto)]
 
 mod answers;

@@ -2,8 +2,9 @@ use conda_dev::{Effect, FailAt, Target};
 use conda_path::Prefix;
 use std::alloc::{AllocError, Global};
 
-/// The plan of failing calls that a text gives, parted by `;`: `host`, `input`, `output` or `lane PREFIX NUMBER`, then
-/// `fails at CALL before` or `fails at CALL after`. What isn't of this form is passed over.
+/// The plan of failing calls that a text gives, parted by `;`: `host`, `input`, `output` or `lane
+/// PREFIX NUMBER`, then `fails at CALL before` or `fails at CALL after`. What isn't of this form is
+/// passed over.
 pub fn plan_of(alloc: Global, text: &str) -> Result<Vec<FailAt>, AllocError> {
     let mut plan = Vec::new(alloc);
     for entry in text.split(';') {
