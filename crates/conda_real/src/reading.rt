@@ -16,9 +16,6 @@ use std::rt::Files;
 /// The most bytes that one read asks for.
 const CHUNK: u64 = 131_072;
 
-/// More than the bytes of a soft link's target on the machine.
-const TARGET: usize = 4_096;
-
 /// The node that a tree has at a place below a folder. What lies behind a soft link isn't part of
 /// it.
 pub fn seen_at(
@@ -142,18 +139,7 @@ fn first_of(alloc: Global, bytes: &[u8], max: u64) -> Result<Vec<u8>, AllocError
     Vec::from_slice(alloc, &bytes[..count])
 }
 
-/// At most the first `max` bytes of a soft link's target that isn't UTF-8.
-fn raw_target(alloc: Global, place: &str, max: u64) -> io::Result<Vec<u8>>
-    ensures { IfOk result (λ first. length first.items ≤ max) }
-{
-    let mut target = [0_u8; TARGET];
-    match usize::try_from(os::readlink(place.as_bytes(), &mut target)) {
-        Ok(count) if count < TARGET => Ok(first_of(alloc, &target[..count], max)?),
-        _ => Err(io::Error::from(ErrorKind::InvalidData)),
-    }
-}
-
-/// At most the first `max` bytes of a soft link's target.
+/// At most the first `max` bytes of a soft link's target, which has to be UTF-8.
 fn target_bytes(
     alloc: Global,
     rt: &(impl Files + AllocGlobal),
@@ -164,7 +150,9 @@ fn target_bytes(
 {
     match fs::read_link(rt, place) {
         Ok(target) => Ok(first_of(alloc, target.as_str().as_bytes(), max)?),
-        Err(e) if e.kind() == ErrorKind::InvalidFilename => raw_target(alloc, place, max),
+        Err(e) if e.kind() == ErrorKind::InvalidFilename => {
+            Err(io::Error::from(ErrorKind::InvalidData))
+        }
         Err(e) => Err(e),
     }
 }
