@@ -19,12 +19,19 @@ pub fn answer(alloc: Global, call: &str, arguments: &[Text]) -> Result<Option<St
         channel.as_str(),
         subdir.as_str(),
     );
-    match (call, read) {
-        ("record", Ok(package)) => Ok(Some(shown(alloc, &package)?)),
-        ("object", Ok(package)) => Ok(Some(object(alloc, &package)?)),
-        ("key", Ok(package)) => Ok(Some(key(alloc, &package)?)),
-        (_, Err(RecordErr::Memory)) => Err(AllocError),
-        (_, Err(error)) => Ok(Some(format!(in alloc; "{error}")?)),
+    match read {
+        Ok(package) => answer_of(alloc, call, &package),
+        Err(RecordErr::Memory) => Err(AllocError),
+        Err(error) => Ok(Some(format!(in alloc; "{error}")?)),
+    }
+}
+
+/// What a row shows of a record that was read.
+fn answer_of(alloc: Global, call: &str, package: &PkgRecord) -> Result<Option<String>, AllocError> {
+    match call {
+        "record" => Ok(Some(shown(alloc, package)?)),
+        "object" => Ok(Some(object(alloc, package)?)),
+        "key" => Ok(Some(key(alloc, package)?)),
         _ => Ok(None),
     }
 }
@@ -57,7 +64,12 @@ fn shown(alloc: Global, package: &PkgRecord) -> Result<String, AllocError> {
         dist.text()
     )?;
     push_specs(alloc, &mut text, "; depends", package.depends.as_slice())?;
-    push_specs(alloc, &mut text, "; constrains", package.constrains.as_slice())?;
+    push_specs(
+        alloc,
+        &mut text,
+        "; constrains",
+        package.constrains.as_slice(),
+    )?;
     Ok(text)
 }
 
@@ -82,26 +94,35 @@ fn push_specs(
     Ok(())
 }
 
-/// The text of the record's object, and whether a copy is read again from it as the same record.
+/// The text of the record's object, which has to be read again as the same record.
 fn object(alloc: Global, package: &PkgRecord) -> Result<String, AllocError> {
-    let copy = package.copy()?;
-    let (Ok(value), Ok(copied)) = (package.value(alloc), copy.value(alloc)) else {
+    let before = shown(alloc, package)?;
+    let after = shown_again(alloc, package)?;
+    if before.as_str() != after.as_str() {
+        return format!(in alloc; "read again as {}", after.as_str());
+    }
+    object_text(alloc, package)
+}
+
+/// What stands in the record that is read of a record's object.
+fn shown_again(alloc: Global, package: &PkgRecord) -> Result<String, AllocError> {
+    let Ok(value) = package.value(alloc) else {
         return Err(AllocError);
     };
-    let again = PkgRecord::read(
-        alloc,
-        &copied,
-        package.dist.text(),
-        package.channel.as_str(),
-        package.subdir.as_str(),
-    );
-    let Ok(again) = again else {
-        return String::from_str(alloc, "not read again");
-    };
-    let (before, after) = (shown(alloc, package)?, shown(alloc, &again)?);
-    if before.as_str() != after.as_str() {
-        return String::from_str(alloc, "read again as another");
+    let file = package.dist.text();
+    let channel = package.channel.as_str();
+    let subdir = package.subdir.as_str();
+    match PkgRecord::read(alloc, &value, file, channel, subdir) {
+        Ok(again) => shown(alloc, &again),
+        Err(error) => format!(in alloc; "{error}"),
     }
+}
+
+/// The compact text of the object of a copy.
+fn object_text(alloc: Global, package: &PkgRecord) -> Result<String, AllocError> {
+    let Ok(value) = package.copy()?.value(alloc) else {
+        return Err(AllocError);
+    };
     let Ok(bytes) = compact(alloc, &value) else {
         return Err(AllocError);
     };
