@@ -1,12 +1,11 @@
 -- The paths of all holders in one list, and where one of them meets another's: the same as in `Conflicts`, as functions.
-use Rattle.std.specs.Prelude.{◌≡◌, ◌≢◌, ℕ, Bool, true, false, ◌&&◌, not, List, ◌++◌, map, flat_map, option_copied, Option, None, Some}
-use Rattle.std.specs.List.{Contains, list_any}
+use Rattle.std.specs.Prelude.{◌≡◌, ℕ, Bool, true, false, ◌&&◌, not, if◌then◌else◌, List, [], ◌∷◌, ◌++◌, map, flat_map, option_copied, Option, None, Some}
+use Rattle.std.specs.List.{list_any}
 use Rattle.std.specs.Cmp.Lexicographic.{slice_cmp}
-use Rattle.std.specs.Ordering.{nat_cmp}
-use Rattle.std.specs.declared.cmp.Ordering.{Ordering}
+use Rattle.std.specs.Option.{option_map_or}
+use Rattle.std.specs.Ordering.{is_lt, nat_cmp}
 use Rattle.conda_base.specs.Texts.{is_text}
 use Rattle.conda_path.specs.Paths.{is_inside}
-use Rattle.conda_path.specs.declared.values.Good.{Good}
 use Rattle.conda_goods.specs.Conflicts.{Holder, owner_cmp, shown}
 use Rattle.conda_goods.specs.declared.error.GoodsErr.{GoodsErr}
 use Rattle.conda_goods.specs.declared.error.GoodsErr.TheVariants.{Clobber, Memory}
@@ -63,38 +62,36 @@ held_by_other holder None = false
 held_by_other holder (Some (One one)) = differ (option_copied one) holder
 held_by_other holder (Some Several) = true
 
--- ---- where claims meet
+-- ---- which of them is named
 
--- no claim meets one of another holder
-abbrev pub NoMeeting : List Claimed → Type 0
-NoMeeting claims = (holder : Holder) (path : List ℕ) → Contains claims (holder, path) → other_above claims holder path ≡ false
+-- the path comes before another one, if there is one
+abbrev pub is_least_yet : List ℕ → Option (List ℕ) → Bool
+is_least_yet path least = option_map_or (λ other. is_lt (slice_cmp nat_cmp path other)) least true
 
--- the least path of a claim that meets one of another holder
-pub record IsLeastMeeting (claims : List Claimed) (path : List ℕ) : Type 0 where
-  pub meets : (holder : Holder) × Contains claims (holder, path) × (other_above claims holder path ≡ true)
-  pub least : (holder : Holder) (later : List ℕ) → Contains claims (holder, later) → other_above claims holder later ≡ true →
-      slice_cmp nat_cmp later path ≢ Ordering.Less
+-- The least of a path, if there is one, and the paths of these claims that meet one of another holder among all.
+abbrev pub least_meeting : List Claimed → List Claimed → Option (List ℕ) → Option (List ℕ)
+least_meeting all [] least = least
+least_meeting all (c ∷ claims) least =
+    least_meeting all claims (if is_least_yet c.1 least && other_above all c.0 c.1 then Some c.1 else least)
 
--- an owner other than one holder has the path or one that it lies below
-abbrev pub StandsAbove : List Claimed → List ℕ → Holder → Owner → Type 0
-StandsAbove claims path except owner =
-    (folder : List ℕ) × Contains claims (Some owner, folder) × (is_inside path folder ≡ true) × (differ (Some owner) except ≡ true)
+-- the owner comes before another one, if there is one
+abbrev pub is_first_yet : Owner → Option Owner → Bool
+is_first_yet owner first = option_map_or (λ other. is_lt (owner_cmp owner other)) first true
 
-abbrev pub IsNoOwner : List Claimed → List ℕ → Holder → Type 0
-IsNoOwner claims path except = (owner : Owner) → ¬ StandsAbove claims path except owner
+-- the owner of the claim where it is one of a part, other than one holder, with the path or one that it lies below
+abbrev pub first_of_two : List ℕ → Holder → Holder → List ℕ → Option Owner → Option Owner
+first_of_two path except None folder first = first
+first_of_two path except (Some owner) folder first =
+    if is_first_yet owner first && differ (Some owner) except && is_inside path folder then Some owner else first
 
-pub record IsFirstOwner (claims : List Claimed) (path : List ℕ) (except : Holder) (owner : Owner) : Type 0 where
-  pub stands : StandsAbove claims path except owner
-  pub first : (later : Owner) → StandsAbove claims path except later → owner_cmp later owner ≢ Ordering.Less
-
--- the first holder, but for one, that has the path or one that it lies below
-abbrev pub IsFirstHolder : List Claimed → List ℕ → Holder → Holder → Type 0
-IsFirstHolder claims path except None = IsNoOwner claims path except
-IsFirstHolder claims path except (Some owner) = IsFirstOwner claims path except owner
+-- the first of an owner, if there is one, and the owners of these claims
+abbrev pub first_above : List ℕ → Holder → List Claimed → Option Owner → Option Owner
+first_above path except [] first = first
+first_above path except (c ∷ claims) first = first_above path except claims (first_of_two path except c.0 c.1 first)
 
 -- the error names a path, and the first two that have it or one that it lies below
 abbrev pub NamesFirst : List Claimed → List ℕ → GoodsErr → Type 0
 NamesFirst claims path Memory = Unit {0}
 NamesFirst claims path (Clobber named first second) =
-    (one : Holder) × (other : Holder) × (named ≡ path) × (shown one ≡ first) × (shown other ≡ second)
-    × IsFirstHolder claims path None one × IsFirstHolder claims path one other
+    let one = first_above path None claims None in
+    (named ≡ path) × (shown one ≡ first) × (shown (first_above path one claims None) ≡ second)

@@ -35,11 +35,13 @@ Has parts others (Some owner) path =
 abbrev pub goods_of : List Owned → List Good
 goods_of parts = flat_map (λ part. part.goods) parts
 
+-- no path stands in both parts
+abbrev pub ShareNoPath : Owned → Owned → Type 0
+ShareNoPath a b = (path : List ℕ) → Contains (paths_of a.goods) path → Contains (paths_of b.goods) path → ⊥
+
 -- no path stands in two parts of one owner
 abbrev pub OwnersRepeatNoPath : List Owned → Type 0
-OwnersRepeatNoPath parts =
-    AllPairs (λ a b. a.owner ≡ b.owner →
-    (path : List ℕ) → Contains (paths_of a.goods) path → Contains (paths_of b.goods) path → ⊥) parts
+OwnersRepeatNoPath parts = AllPairs (λ a b. a.owner ≡ b.owner → ShareNoPath a b) parts
 
 -- ---- where two conflict
 

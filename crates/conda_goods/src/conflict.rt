@@ -1,11 +1,12 @@
-ghost use Rattle.std.specs.Prelude.{◌≡◌, ◌↔◌, List, ℕ, IfOk, MatchOption, true, map, option_copied};
+ghost use Rattle.std.specs.Prelude.{◌≡◌, ◌↔◌, List, ℕ, IfOk, MatchOption, None, true, map, option_copied};
 ghost use Rattle.std.specs.BTreeMap.{get_by};
 ghost use Rattle.std.specs.Cmp.Lexicographic.{slice_cmp};
 ghost use Rattle.std.specs.Ordering.{nat_cmp};
 ghost use Rattle.conda_path.specs.Paths as paths;
 ghost use Rattle.conda_path.specs.Paths.{IsInside};
 ghost use Rattle.conda_goods.specs.Claims.{claimed, held_by_other, other_has};
-ghost use Rattle.conda_goods.specs.Claims.{IsFirstOwner, IsLeastMeeting, IsNoOwner, NamesFirst, NoMeeting};
+ghost use Rattle.conda_goods.specs.Claims.{NamesFirst, first_above, is_first_yet, is_least_yet};
+ghost use Rattle.conda_goods.specs.Claims.{least_meeting};
 ghost use Rattle.conda_goods.specs.Conflicts.{Holder, NamesFirstConflict, NoConflict, shown};
 
 use crate::claims::{Claim, all_claims};
@@ -36,27 +37,29 @@ fn holders<'a>(
     Ok(at)
 }
 
-/// Whether another holder has the path of a claim, or a path that it lies below.
-fn meets_other<'a>(at: &BTreeMap<&'a str, Held<'a>>, claim: &Claim<'a>) -> bool
-    ensures { (result ≡ true) ↔ (folder : List ℕ) × IsInside claim.now.path.now folder
-        × (held_by_other (option_copied claim.now.holder)
-        (get_by (λ k. slice_cmp nat_cmp folder k.now) at.now) ≡ true) }
+/// Whether another holder has the path, or a path that it lies below.
+fn meets_other<'a>(
+    at: &BTreeMap<&'a str, Held<'a>>,
+    path: &'a str,
+    holder: Option<&'a Owner>,
+) -> bool
+    ensures { (result ≡ true) ↔ ((folder : List ℕ) × IsInside path.now folder
+        × (held_by_other (option_copied holder.entry)
+        (get_by (λ k. slice_cmp nat_cmp folder k.now) at.now) ≡ true)) }
 {
-    let mut path = claim.path.as_str();
-    if is_other(at.get(path).copied(), claim.holder) {
+    if is_other(at.get(path).copied(), holder) {
         return true;
     }
-    while let Some((folder, _)) = cut_last(path, b'/') {
-        if is_other(at.get(folder).copied(), claim.holder) {
-            return true;
-        }
-        path = folder;
+    match cut_last(path, b'/') {
+        Some((folder, _)) => meets_other(at, folder, holder),
+        None => false,
     }
-    false
 }
 
 /// Whether the path comes before another one, if there is one.
-fn is_less(path: &RelPath, other: Option<&RelPath>) -> bool {
+fn is_less(path: &RelPath, other: Option<&RelPath>) -> bool
+    ensures { result ≡ is_least_yet path.now (option_copied other.entry) }
+{
     match other {
         Some(other) => path < other,
         None => true,
@@ -68,13 +71,13 @@ fn least_conflict<'a>(
     alloc: Global,
     claims: &[Claim<'a>],
 ) -> Result<Option<&'a RelPath>, AllocError>
-    ensures { IfOk result (λ least. MatchOption least (NoMeeting (map claimed claims.now))
-        (λ path. IsLeastMeeting (map claimed claims.now) path.now)) }
+    ensures { IfOk result (λ least. option_copied least
+        ≡ least_meeting (map claimed claims.now) (map claimed claims.now) None) }
 {
     let at = holders(alloc, claims)?;
     let mut least = None;
     for claim in claims {
-        if is_less(claim.path, least) && meets_other(&at, claim) {
+        if is_less(claim.path, least) && meets_other(&at, claim.path.as_str(), claim.holder) {
             least = Some(claim.path);
         }
     }
@@ -97,7 +100,9 @@ fn is_inside(path: &RelPath, other: &RelPath) -> bool
 }
 
 /// Whether the owner comes before another one, if there is one.
-fn is_earlier(owner: &Owner, other: Option<&Owner>) -> bool {
+fn is_earlier(owner: &Owner, other: Option<&Owner>) -> bool
+    ensures { result ≡ is_first_yet owner.now (option_copied other.entry) }
+{
     match other {
         Some(other) => owner < other,
         None => true,
@@ -110,9 +115,8 @@ fn first_owner<'a>(
     path: &RelPath,
     except: Option<&Owner>,
 ) -> Option<&'a Owner>
-    ensures { MatchOption result
-        (IsNoOwner (map claimed claims.now) path.now (option_copied except))
-        (λ owner. IsFirstOwner (map claimed claims.now) path.now (option_copied except) owner.now) }
+    ensures { option_copied result
+        ≡ first_above path.now (option_copied except.entry) (map claimed claims.now) None }
 {
     let mut first = None;
     for claim in claims {
@@ -128,7 +132,7 @@ fn first_owner<'a>(
 
 /// The owner that an answer shows for a holder.
 fn show(holder: Option<&Owner>) -> Result<Owner, AllocError>
-    ensures { IfOk result (λ owner. owner ≡ shown (option_copied holder)) }
+    ensures { IfOk result (λ owner. owner ≡ shown (option_copied holder.entry)) }
 {
     match holder {
         Some(owner) => owner.copy(),

@@ -1,11 +1,14 @@
 ghost use Rattle.std.specs.Prelude.{◌≡◌, ◌≢◌, IfOk};
 ghost use Rattle.std.specs.List.{AllPairs};
+ghost use Rattle.std.specs.Cmp.Lexicographic.{slice_cmp};
+ghost use Rattle.std.specs.Ordering.{nat_cmp};
 ghost use Rattle.conda_base.specs.Texts.{Ascending};
 ghost use Rattle.conda_goods.specs.Goods.{IsSortedOf, paths_of};
 
 use conda_base::{Copied, Rows};
 use conda_path::Good;
 use std::alloc::AllocError;
+use std::cmp::Ordering;
 use std::marker::Model;
 
 /// Goods ascending by path, no two with one path. Contracts see them as a list.
@@ -36,7 +39,11 @@ impl Goods {
         ensures { IfOk result (λ made. IsSortedOf goods.items made) }
     {
         let mut goods = goods;
-        goods.sort()?;
+        goods.sort_by(
+            |first: &Good, second: &Good| -> Ordering
+                ensures { result ≡ slice_cmp nat_cmp first.now.path second.now.path }
+            { first.path.cmp(&second.path) },
+        )?;
         Ok(Goods {
             goods: Rows::from_vec(goods),
         })

@@ -1,6 +1,6 @@
-ghost use Rattle.std.specs.Prelude.{◌≡◌, ◌||◌, option_copied, option_map, Some};
+ghost use Rattle.std.specs.Prelude.{◌≡◌, ◌||◌, option_copied, Some};
 ghost use Rattle.conda_goods.specs.Claims as claims_spec;
-ghost use Rattle.conda_goods.specs.Claims.{differ, held_by_other};
+ghost use Rattle.conda_goods.specs.Claims.{held_by_other};
 ghost use Rattle.conda_goods.specs.Conflicts.{Holder};
 
 use crate::owner::Owner;
@@ -14,7 +14,7 @@ pub enum Held<'a> {
 
 /// Whether two holders are two. It takes no memory.
 pub fn differ(a: Option<&Owner>, b: Option<&Owner>) -> bool
-    ensures { result ≡ claims_spec.differ (option_copied a) (option_copied b) }
+    ensures { result ≡ claims_spec.differ (option_copied a.entry) (option_copied b.entry) }
 {
     match (a, b) {
         (None, None) => false,
@@ -26,7 +26,7 @@ pub fn differ(a: Option<&Owner>, b: Option<&Owner>) -> bool
 /// Who has a path that one more holder has.
 pub fn joined<'a>(held: Option<Held<'a>>, holder: Option<&'a Owner>) -> Held<'a>
     ensures { (other : Holder) → held_by_other other (Some result)
-        ≡ held_by_other other held || claims_spec.differ (option_copied holder) other }
+        ≡ held_by_other other held.entry || claims_spec.differ (option_copied holder.entry) other }
 {
     match held {
         None => Held::One(holder),
@@ -37,7 +37,7 @@ pub fn joined<'a>(held: Option<Held<'a>>, holder: Option<&'a Owner>) -> Held<'a>
 
 /// Whether another holder has the path. It takes no memory.
 pub fn is_other(held: Option<Held<'_>>, holder: Option<&Owner>) -> bool
-    ensures { result ≡ held_by_other (option_copied holder) held }
+    ensures { result ≡ held_by_other (option_copied holder.entry) held.entry }
 {
     match held {
         None => false,

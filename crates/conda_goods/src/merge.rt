@@ -1,8 +1,9 @@
-ghost use Rattle.std.specs.Prelude.{◌≡◌, ◌≢◌, ◌++◌, IfErr, IfOk, OnOk};
+ghost use Rattle.std.specs.Prelude.{◌≡◌, ◌++◌, IfErr, IfOk, OnOk};
 ghost use Rattle.std.specs.List.{AllPairs};
 ghost use Rattle.conda_goods.specs.Conflicts.{NamesFirstConflict, NoConflict, OwnersRepeatNoPath};
-ghost use Rattle.conda_goods.specs.Conflicts.{goods_of};
-ghost use Rattle.conda_goods.specs.Goods.{IsSortedOf};
+ghost use Rattle.conda_goods.specs.Conflicts.{ShareNoPath, goods_of};
+ghost use Rattle.conda_base.specs.Texts.{Ascending};
+ghost use Rattle.conda_goods.specs.Goods.{IsSortedOf, paths_of};
 
 use crate::conflict::first_conflict;
 use crate::error::GoodsErr;
@@ -14,7 +15,8 @@ use std::alloc::{AllocError, Global};
 
 /// Adds the goods of a part.
 fn add_goods(goods: &mut Vec<Good>, part: &Owned) -> Result<(), AllocError>
-    ensures { OnOk result (goods.new.items ≡ goods.old.items ++ part.now.goods) }
+    ensures goods { OnOk result (goods.new.items ≡ goods.old.items ++ part.now.goods) }
+    ensures ascending { Ascending (paths_of part.now.goods) }
 {
     for good in part.goods.list() {
         goods.push(good.copy()?)?;
@@ -24,7 +26,7 @@ fn add_goods(goods: &mut Vec<Good>, part: &Owned) -> Result<(), AllocError>
 
 /// The goods of all parts, ascending by path.
 fn sorted_goods(alloc: Global, parts: &[Owned]) -> Result<Goods, AllocError>
-    requires { AllPairs (λ a b. a.path ≢ b.path) (goods_of parts.now) }
+    requires { AllPairs ShareNoPath parts.now }
     ensures { IfOk result (λ goods. IsSortedOf (goods_of parts.now) goods) }
 {
     let mut goods = Vec::new(alloc);
