@@ -2,7 +2,6 @@
 #![tactic(auto)]
 
 mod base;
-mod goods;
 mod json;
 mod path;
 mod prefix;
@@ -26,9 +25,6 @@ impl Table for Values {
             return Ok(Some(answer));
         }
         if let Some(answer) = path::answer(alloc, call, arguments)? {
-            return Ok(Some(answer));
-        }
-        if let Some(answer) = goods::answer(alloc, call, arguments)? {
             return Ok(Some(answer));
         }
         if let Some(answer) = version::answer(alloc, call, arguments)? {

@@ -155,11 +155,13 @@ fn joined(alloc: Global, parts: &[Text], others: &str) -> Result<Option<String>,
     };
     match union(alloc, parts.as_slice(), others.as_slice()) {
         Ok(goods) => shown(alloc, &goods),
-        Err(GoodsErr::Clobber {
-            path,
-            first,
-            second,
-        }) => {
+        Err(
+            GoodsErr::Clobber {
+                path,
+                first,
+                second,
+            },
+        ) => {
             let path = path.as_str();
             let first = owner_text(&first);
             let second = owner_text(&second);
