@@ -1,0 +1,4 @@
+pub mod Changes
+pub mod Undo
+pub mod Calls
+pub mod Purge
