@@ -2,3 +2,4 @@ pub mod Changes
 pub mod Undo
 pub mod Calls
 pub mod Purge
+pub mod Steps

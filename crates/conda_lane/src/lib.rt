@@ -2,5 +2,14 @@
 #![tactic(auto)]
 
 mod change;
+mod laws;
+mod moving;
+mod purging;
+mod step;
+mod undoing;
 
 pub use change::Change;
+pub use laws::undo_laws;
+pub use moving::move_out;
+pub use purging::purge;
+pub use undoing::{undo, undo_moves, undo_puts};

@@ -1,0 +1,19 @@
+ghost use Rattle.std.specs.Prelude.{◌≡◌, List};
+ghost use Rattle.conda_device.specs.Tree.{Tree};
+ghost use Rattle.conda_lane.specs.declared.change.Change.{Change};
+ghost use Rattle.conda_lane.specs.Changes.{AreApart, Between, IsStart};
+ghost use Rattle.conda_lane.specs.Undo.{IsCleared, IsMovedBack, IsUndone, undone};
+
+/// Undoing gives the start again, from every state between. What it makes of any tree is said at
+/// each path, and there is one such tree. Its halves make it together.
+pub fn undo_laws()
+    ensures start { (kept tree start : Tree) (changes : List Change) → AreApart changes
+        → IsStart start changes → Between kept tree start changes → undone tree changes ≡ start }
+    ensures exact { (tree : Tree) (changes : List Change) → AreApart changes
+        → IsUndone (undone tree changes) tree changes }
+    ensures only { (tree now : Tree) (changes : List Change) → AreApart changes
+        → IsUndone now tree changes → now ≡ undone tree changes }
+    ensures halves { (tree cleared now : Tree) (changes : List Change) → AreApart changes
+        → IsCleared cleared tree changes → IsMovedBack now cleared changes
+        → now ≡ undone tree changes }
+{}
