@@ -1,4 +1,4 @@
-ghost use Rattle.std.specs.Prelude.{◌≡◌, ◌⊎◌, IfOk, IfSome, OnErr, OnOk, is_some};
+ghost use Rattle.std.specs.Prelude.{◌≡◌, ◌⊎◌, IfOk, IfSome, OnErr, OnOk, is_some, true};
 ghost use Rattle.conda_device.specs.Fault.{HasCause};
 ghost use Rattle.conda_device.specs.Lanes.{IsInShare};
 ghost use Rattle.conda_lane.specs.Calls.{Leads};
@@ -40,6 +40,23 @@ fn is_in_trash<L: Lane>(lane: &mut L, change: &Change) -> Result<bool, Failed>
     Ok(seen.is_some())
 }
 
+/// Erases the new node of a change with an old node, where that one is in the trash.
+fn clear_replaced<L: Lane>(lane: &mut L, change: &Change) -> Result<(), Failed>
+    requires change { IsChange (L.share lane.old) change.now }
+    requires old { change.now.old ≡ true }
+    ensures ok { OnOk result
+        (Leads (Goes IsClearedAt change.now) (L.told lane.old) (L.told lane.new)) }
+    ensures err { OnErr result ((L.told lane.new ≡ L.told lane.old)
+        ⊎ Leads (Goes IsClearedAt change.now) (L.told lane.old) (L.told lane.new)) }
+    ensures cause { HasCause (L.faults lane.old) (L.faults lane.new) result }
+    ensures share { L.share lane.new ≡ L.share lane.old }
+{
+    if is_in_trash(lane, change)? {
+        lane.erase(&change.path)?;
+    }
+    Ok(())
+}
+
 /// Erases the new node of a change, unless the old one may still be at the path.
 pub fn clear<L: Lane>(lane: &mut L, change: &Change) -> Result<(), Failed>
     requires { IsChange (L.share lane.old) change.now }
@@ -50,10 +67,11 @@ pub fn clear<L: Lane>(lane: &mut L, change: &Change) -> Result<(), Failed>
     ensures cause { HasCause (L.faults lane.old) (L.faults lane.new) result }
     ensures share { L.share lane.new ≡ L.share lane.old }
 {
-    if change.old && !is_in_trash(lane, change)? {
-        return Ok(());
+    if change.old {
+        return clear_replaced(lane, change);
     }
-    lane.erase(&change.path)
+    lane.erase(&change.path)?;
+    Ok(())
 }
 
 /// Moves the old node of a change back, where it is in the trash.
@@ -68,7 +86,10 @@ pub fn move_back<L: Lane>(lane: &mut L, change: &Change) -> Result<(), Failed>
     ensures cause { HasCause (L.faults lane.old) (L.faults lane.new) result }
     ensures share { L.share lane.new ≡ L.share lane.old }
 {
-    if change.old && is_in_trash(lane, change)? {
+    if !change.old {
+        return Ok(());
+    }
+    if is_in_trash(lane, change)? {
         lane.shift(&change.trash, &change.path)?;
     }
     Ok(())

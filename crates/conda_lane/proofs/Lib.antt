@@ -1,0 +1,4 @@
+pub mod Lists
+pub mod UndoLemmas
+pub mod WalkLemmas
+pub mod StepLemmas
