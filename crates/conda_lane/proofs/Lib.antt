@@ -2,3 +2,5 @@ pub mod Lists
 pub mod UndoLemmas
 pub mod WalkLemmas
 pub mod StepLemmas
+pub mod EffectLemmas
+pub mod PurgeLemmas

@@ -1,5 +1,5 @@
 -- What one device call makes of a change's two paths.
-use Rattle.std.proofs.Common.{◌≡◌, ◌⊎◌, inl, inr, ℕ, List, Bool, true, false, true≢false, cond, is_some, IsSome, IfSome, OnErr, Result, Ok, Err, Option, Some, None, refl, ap, subst, sym, ◌∙◌}
+use Rattle.std.proofs.Common.{◌≡◌, ◌⊎◌, inl, inr, ℕ, List, Bool, true, false, true≢false, cond, is_some, IsSome, IfSome, OnErr, OnOk, Result, Ok, Err, Option, Some, None, refl, ap, subst, sym, ◌∙◌}
 use Rattle.std.specs.Str.{bytes_eq}
 use Rattle.std.specs.FinMap as map
 use Rattle.conda_path.specs.declared.values.Node.{Node}
@@ -20,14 +20,15 @@ on_err (Ok x) h = tt
 on_err (Err e) h = h
 
 -- a call that failed left all as it was, or had its effect, which leads there
-pub stays_or_leads : {A : Tree → Tree → Type 0} (t asked u : Option Tree) → BeforeOrAsked t asked u → Leads A t asked → (u ≡ t) ⊎ Leads A t u
-stays_or_leads {A} t asked u h leads = elim h [
+pub stays_or_goes : (E : Tree → Tree → Change → Type 0) (c : Change) (t asked u : Option Tree) → BeforeOrAsked t asked u → Leads (Goes E c) t asked
+    → (u ≡ t) ⊎ Leads (Goes E c) t u
+stays_or_goes E c t asked u h leads = elim h [
   | inl same ↦ inl same
-  | inr is ↦ inr (subst (λ x. Leads A t x) (sym is) leads)
+  | inr is ↦ inr (subst (λ x. Leads (Goes E c) t x) (sym is) leads)
 ]
 
-pub leads_as : {A : Tree → Tree → Type 0} (t asked u : Option Tree) → u ≡ asked → Leads A t asked → Leads A t u
-leads_as {A} t asked u is leads = subst (λ x. Leads A t x) (sym is) leads
+pub goes_as : (E : Tree → Tree → Change → Type 0) (c : Change) (t asked u : Option Tree) → u ≡ asked → Leads (Goes E c) t asked → Leads (Goes E c) t u
+goes_as E c t asked u is leads = subst (λ x. Leads (Goes E c) t x) (sym is) leads
 
 module _ (tree : Tree) (c : Change) (own : bytes_eq c.path c.trash ≡ false) where
   -- the node at one path goes to the other
@@ -137,67 +138,19 @@ module _ (t : Option Tree) (c : Change) (own : bytes_eq c.path c.trash ≡ false
     | Some tree ↦ erased_goes tree c own old
   ]
 
--- nothing was to be done
+-- ---- after a look
 
-stays : {E : Tree → Tree → Change → Type 0} (c : Change) (tree : Tree) → E tree tree c → Goes E c tree tree
-stays c tree own = record { own = own; others = λ p path trash. refl }
+pub found_true : (t : Option Tree) (c : Change) (found : Bool) → found ≡ true → IfSome t (λ tree. found ≡ is_some (at tree c.trash)) → IfSome t (λ tree. true ≡ is_some (at tree c.trash))
+found_true t c found is h = subst (λ b. IfSome t (λ tree. b ≡ is_some (at tree c.trash))) is h
 
-module _ (t : Option Tree) (c : Change) where
-  pub none_out : IfSome t (λ tree. IsReady tree c) → c.old ≡ false → Leads (Goes IsMoved c) t t
-  none_out ready old = elim t as (λ o. IfSome o (λ tree. IsReady tree c) → Leads (Goes IsMoved c) o o) [
-    | None ↦ λ r. tt
-    | Some tree ↦ λ r. let free = none_there (at tree c.path) (r.old ∙ old) in stays c tree (record { path = free; trash = r.trash ∙ sym free })
-  ] ready
+-- the call is made on the tree as it was before the look
+pub same_or_goes : (E : Tree → Tree → Change → Type 0) (c : Change) (f : Option Tree → Option Tree) (t u v : Option Tree) → u ≡ t → BeforeOrAsked u (f u) v → Leads (Goes E c) t (f t)
+    → (v ≡ t) ⊎ Leads (Goes E c) t v
+same_or_goes E c f t u v is h leads = stays_or_goes E c t (f t) v (subst (λ x. BeforeOrAsked x (f x) v) is h) leads
 
-  pub none_in_trash : c.old ≡ true → IfSome t (λ tree. false ≡ is_some (at tree c.trash)) → Leads (Goes IsClearedAt c) t t
-  none_in_trash old found = elim t as (λ o. IfSome o (λ tree. false ≡ is_some (at tree c.trash)) → Leads (Goes IsClearedAt c) o o) [
-    | None ↦ λ r. tt
-    | Some tree ↦ λ r.
-        let is = none_there (at tree c.trash) (sym r) in
-        stays c tree (record { path = sym (ap (λ b. cleared b (at tree c.path) (at tree c.trash)) old ∙ ap (cleared true (at tree c.path)) is); trash = refl })
-  ] found
+pub goes_after : (E : Tree → Tree → Change → Type 0) (c : Change) (f : Option Tree → Option Tree) (t u v : Option Tree) → u ≡ t → v ≡ f u → Leads (Goes E c) t (f t) → Leads (Goes E c) t v
+goes_after E c f t u v is h leads = goes_as E c t (f t) v (h ∙ ap f is) leads
 
-  pub none_to_move : c.old ≡ true → IfSome t (λ tree. false ≡ is_some (at tree c.trash)) → Leads (Goes IsMovedBackAt c) t t
-  none_to_move old found = elim t as (λ o. IfSome o (λ tree. false ≡ is_some (at tree c.trash)) → Leads (Goes IsMovedBackAt c) o o) [
-    | None ↦ λ r. tt
-    | Some tree ↦ λ r.
-        let is = none_there (at tree c.trash) (sym r) in
-        stays c tree (record {
-          path = sym (ap (λ b. moved_back b (at tree c.path) (at tree c.trash)) old ∙ ap (moved_back true (at tree c.path)) is);
-          trash = is ∙ sym (ap (λ b. undone_trash b (at tree c.trash)) old);
-        })
-  ] found
-
-  pub none_was : c.old ≡ false → Leads (Goes IsMovedBackAt c) t t
-  none_was old = elim t as (λ o. Leads (Goes IsMovedBackAt c) o o) [
-    | None ↦ tt
-    | Some tree ↦ stays c tree (record {
-      path = sym (ap (λ b. moved_back b (at tree c.path) (at tree c.trash)) old);
-      trash = sym (ap (λ b. undone_trash b (at tree c.trash)) old);
-    })
-  ]
-
-  pub none_to_erase : c.old ≡ false → Leads (Goes IsErased c) t t
-  none_to_erase old = elim t as (λ o. Leads (Goes IsErased c) o o) [
-    | None ↦ tt
-    | Some tree ↦ stays c tree (record { path = refl; trash = sym (ap (λ b. erased_trash b (at tree c.trash)) old) })
-  ]
-
-  -- a node in the trash can be moved back where there is one node
-  pub can_move_back : c.old ≡ true → IfSome t (λ tree. true ≡ is_some (at tree c.trash))
-      → IfSome t (λ tree. HasOneNode c.old (at tree c.path) (at tree c.trash)) → CanMove t c.trash c.path
-  can_move_back old found free =
-      elim t as (λ o. IfSome o (λ tree. true ≡ is_some (at tree c.trash)) → IfSome o (λ tree. HasOneNode c.old (at tree c.path) (at tree c.trash)) → CanMove o c.trash c.path) [
-        | None ↦ λ r f. tt
-        | Some tree ↦ λ r f. (sym r, one_free (at tree c.path) (at tree c.trash) (sym r) (subst (λ b. HasOneNode b (at tree c.path) (at tree c.trash)) old f))
-      ] found free
-    where
-      one_free : (path found : Option Node) → IsSome found → HasOneNode true path found → path ≡ None
-      one_free path None is h = absurd (true≢false (sym is))
-      one_free path (Some node) is h = h
-
-  pub can_move_out : c.old ≡ true → IfSome t (λ tree. IsReady tree c) → CanMove t c.path c.trash
-  can_move_out old ready = elim t as (λ o. IfSome o (λ tree. IsReady tree c) → CanMove o c.path c.trash) [
-    | None ↦ λ r. tt
-    | Some tree ↦ λ r. (r.old ∙ old, r.trash)
-  ] ready
+pub on_ok_map : {A E P Q : Type 0} (result : Result A E) → (P → Q) → OnOk result P → OnOk result Q
+on_ok_map (Ok x) f h = f h
+on_ok_map (Err e) f h = tt

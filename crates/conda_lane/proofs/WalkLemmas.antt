@@ -113,8 +113,12 @@ stage_either E before now k i [] h = tt
 stage_either E before now k zero (c ∷ cs) h = (inr h.0, stage_either E before now (k + 1) zero cs h.1)
 stage_either E before now k (suc i) (c ∷ cs) h = (inl h.0, stage_either E before now (k + 1) i cs h.1)
 
+-- wherever a loop stopped, each change went through the step or is as it was
+abbrev pub Halted : (Tree → Tree → Change → Type 0) → List Change → Tree → Tree → Type 0
+Halted E cs before now = Stands (λ c. E before now c ⊎ IsSame before now c) before now cs
+
 -- wherever it stopped, each change went through the step or is as it was
-pub walk_either : (E : Tree → Tree → Change → Type 0) (before now : Tree) (i : ℕ) (cs : List Change) → Walk (Plain E) i cs before now → Stands (λ c. E before now c ⊎ IsSame before now c) before now cs
+pub walk_either : (E : Tree → Tree → Change → Type 0) (before now : Tree) (i : ℕ) (cs : List Change) → Walk (Plain E) i cs before now → Halted E cs before now
 walk_either E before now i cs walk = record { each = stage_either E before now 0 i cs walk.each; others = walk.others }
 
 -- ---- where the tree is told
@@ -132,6 +136,10 @@ leads_map f None None h = h
 leads_map f None (Some b) h = h
 leads_map f (Some a) None h = h
 leads_map f (Some a) (Some b) h = f a b h
+
+-- what two calls keep, they keep together
+pub then_too : (P : Tree → Type 0) (t u v : Option Tree) → Leads (λ before now. P before → P now) t u → Leads (λ before now. P before → P now) u v → Leads (λ before now. P before → P now) t v
+then_too P t u v first second = leads_then (λ (before mid now : Tree) (f : P before → P mid) (g : P mid → P now) (p : P before). g (f p)) t u v first second
 
 -- what holds of the tree before gives what the call leads to
 pub leads_from : {P : Tree → Type 0} {A B : Tree → Tree → Type 0} → ((a b : Tree) → P a → A a b → B a b) → (t u : Option Tree) → IfSome t P → Leads A t u → Leads B t u
@@ -151,8 +159,42 @@ pub leads_self : (A : Tree → Tree → Type 0) → ((a : Tree) → A a a) → (
 leads_self A f None = tt
 leads_self A f (Some a) = f a
 
+-- ---- a loop, where the tree is told
+
+module _ (E : Tree → Tree → Change → Type 0) (local : IsLocal (Plain E)) (i : ℕ) (c : Change) (cs : List Change) (apart : AreApart cs) (below : i < length cs) (is : c ≡ get_or cs i c) (t u v : Option Tree) where
+  pub step_on : Leads (Walk (Plain E) i cs) t u → Leads (Goes E c) u v → Leads (Walk (Plain E) (i + 1) cs) t v
+  step_on walk goes = leads_then (λ before mid now w g. walk_more (Plain E) local before mid now i c cs apart below is w g) t u v walk goes
+
+  -- a step that failed stayed or was done
+  pub step_off : Leads (Walk (Plain E) i cs) t u → (v ≡ u) ⊎ Leads (Goes E c) u v → Leads (Halted E cs) t v
+  step_off walk h = elim h [
+    | inl same ↦ subst (λ x. Leads (Halted E cs) t x) (sym same) (leads_map (λ before now w. walk_either E before now i cs w) t u walk)
+    | inr goes ↦ leads_map (λ before now w. walk_either E before now (i + 1) cs w) t v (step_on walk goes)
+  ]
+
+pub walk_first : (effect : Effect) (cs : List Change) (t : Option Tree) → Leads (Walk effect 0 cs) t t
+walk_first effect cs t = leads_self (Walk effect 0 cs) (walk_start effect cs) t
+
+pub walk_whole : (E : Tree → Tree → Change → Type 0) (i : ℕ) (cs : List Change) (t u : Option Tree) → length cs ≤ i → Leads (Walk (Plain E) i cs) t u
+    → Leads (λ before now. Stands (E before now) before now cs) t u
+walk_whole E i cs t u all walk = leads_map (λ before now w. walk_all E before now i cs all w) t u walk
+
+pub walk_halted : (E : Tree → Tree → Change → Type 0) (i : ℕ) (cs : List Change) (t u : Option Tree) → Leads (Walk (Plain E) i cs) t u → Leads (Halted E cs) t u
+walk_halted E i cs t u walk = leads_map (λ before now w. walk_either E before now i cs w) t u walk
+
 -- ---- the condition of a step
 
 pub change_at : (share : Share) (i : ℕ) (c : Change) (cs : List Change) → AreChanges share cs → i < length cs → c ≡ get_or cs i c → IsChange share c
 change_at share i c cs are below is =
     all_at (IsChange share) i c cs below is (each_change share cs are.apart are.inside)
+
+-- a lane's change, after calls that left the share
+pub change_later : (before share : Share) (i : ℕ) (c : Change) (cs : List Change) → share ≡ before → AreChanges before cs → i < length cs → c ≡ get_or cs i c → IsChange share c
+change_later before share i c cs same are below is = subst (λ s. IsChange s c) (sym same) (change_at before i c cs are below is)
+
+-- what held of each change at the start holds of one that is still to come
+pub still_so : (Q : Tree → Change → Type 0) (E : Tree → Tree → Change → Type 0) (i : ℕ) (c : Change) (cs : List Change) (t u : Option Tree)
+    → ((before now : Tree) → IsSame before now c → Q before c → Q now c) → i < length cs → c ≡ get_or cs i c
+    → IfSome t (λ tree. AllByRecursion (Q tree) cs) → Leads (Walk (Plain E) i cs) t u → IfSome u (λ tree. Q tree c)
+still_so Q E i c cs t u f below is each walk =
+    leads_to (λ before now q w. f before now (walk_at (Plain E) before now i c cs below is w) (all_at (Q before) i c cs below is q)) t u each walk

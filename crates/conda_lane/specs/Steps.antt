@@ -1,9 +1,12 @@
 -- One change after another: what a step does at the change's two paths, and how far a loop has come. This project's own.
-use Rattle.std.specs.Prelude.{◌≡◌, ℕ, zero, suc, ◌+◌, false, List, [], ◌∷◌}
+use Rattle.std.specs.Prelude.{◌≡◌, ◌⊎◌, ℕ, zero, suc, ◌+◌, false, List, [], ◌∷◌, ◌++◌, Option}
 use Rattle.std.specs.Str.{bytes_eq}
+use Rattle.conda_device.specs.Fault.{Rose}
 use Rattle.conda_device.specs.Lanes.{IsInShare, Share}
 use Rattle.conda_device.specs.Tree.{Tree}
+use Rattle.conda_lane.specs.Calls.{Leads}
 use Rattle.conda_lane.specs.Changes.{at, is_named}
+use Rattle.conda_lane.specs.Purge.{IsErased}
 use Rattle.conda_lane.specs.declared.change.Change.{Change}
 
 -- a change of one lane
@@ -36,3 +39,9 @@ Stage effect before now from (suc done) (change ∷ rest) = effect from before n
 pub record Walk (effect : Effect) (done : ℕ) (changes : List Change) (before now : Tree) : Type 0 where
   pub each : Stage effect before now 0 done changes
   pub others : (path : List ℕ) → is_named changes path ≡ false → at now path ≡ at before path
+
+-- the old node was erased, or that failed: then the change's number stands at the end of `left` and the count of faults rose
+abbrev pub IsErasedOrLeft : ℕ → List ℕ → List ℕ → Change → Option Tree → Option Tree → ℕ → ℕ → Type 0
+IsErasedOrLeft number before left change told now faults later =
+    ((left ≡ before) × Leads (Goes IsErased change) told now)
+    ⊎ ((left ≡ before ++ number ∷ []) × Rose faults later × ((now ≡ told) ⊎ Leads (Goes IsErased change) told now))

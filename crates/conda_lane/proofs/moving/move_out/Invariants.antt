@@ -1,4 +1,4 @@
--- so many old nodes are moved
+-- so many changes went through their step
 use Rattle.std.proofs.Common.{◌≡◌, ◌≤◌}
 use Rattle.conda_lane.specs.Calls.{Leads}
 use Rattle.conda_lane.specs.Changes.{IsMoved}
@@ -8,7 +8,7 @@ use Rattle.conda_lane.proofs.moving.move_out.Given as goal
 
 abbrev pub invariant-loop-change : goal.invariant-loop-change
 invariant-loop-change g l = record {
-  told : Leads (Walk (Plain IsMoved) l.change-index l.changes) (g.L.told l.initial.lane) (g.L.told l.lane);
-  share : g.L.share l.lane ≡ g.L.share l.initial.lane;
-  later : g.L.faults l.initial.lane ≤ g.L.faults l.lane;
+  told : Leads (Walk (Plain IsMoved) l.change-index l.changes) (g.L.Lane.told l.initial.lane) (g.L.Lane.told l.lane);
+  share : g.L.Lane.share l.lane ≡ g.L.Lane.share l.initial.lane;
+  later : g.L.Lane.faults l.initial.lane ≤ g.L.Lane.faults l.lane;
 }
