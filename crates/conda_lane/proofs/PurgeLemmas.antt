@@ -173,26 +173,37 @@ take_first [] ys = refl
 take_first (x ∷ xs) ys = ap (λ zs. x ∷ zs) (take_first xs ys)
 
 module _ (first : List ℕ) (faults : ℕ) (told : Option Tree) (i : ℕ) (cs : List Change) (all : length cs ≤ i) (le : i ≤ length cs)
-    (left : List ℕ) (later : ℕ) (now : Option Tree) (done : Purging first faults told i cs left later now) where
-  pub failed_is : done.failed ≡ drop (length first) left
-  failed_is = sym (ap (drop (length first)) done.is ∙ drop-append_seam first done.failed)
+    (left : List ℕ) (later : ℕ) (now : Option Tree) (n m : ℕ) (is_n : n ≡ length first) (is_m : m ≡ length left) (done : Purging first faults told i cs left later now) where
+  failed_is : done.failed ≡ drop n left
+  failed_is = sym (ap (λ k. drop k left) is_n ∙ ap (drop (length first)) done.is ∙ drop-append_seam first done.failed)
 
-  pub purging_tree : Leads (λ before after. IsPurged (drop (length first) left) before after cs) told now
+  pub purging_tree : Leads (λ before after. IsPurged (drop n left) before after cs) told now
   purging_tree =
       subst (λ xs. Leads (λ before after. IsPurged xs before after cs) told now) failed_is
       (leads_map (λ before after w. record { each = walk_end (Purged done.failed) before after i cs all w; others = w.others }) told now done.told_now)
 
-  pub purging_kept : take (length first) left ≡ first
-  purging_kept = ap (take (length first)) done.is ∙ take_first first done.failed
+  pub purging_kept : take n left ≡ first
+  purging_kept = ap (λ k. take k left) is_n ∙ ap (take (length first)) done.is ∙ take_first first done.failed
 
-  pub purging_ascending : AllPairs (λ x y. x < y) (drop (length first) left)
+  pub purging_ascending : AllPairs (λ x y. x < y) (drop n left)
   purging_ascending = subst (λ xs. AllPairs (λ x y. x < y) xs) failed_is done.ascending
 
-  pub purging_numbers : All (λ n. n < length cs) (drop (length first) left)
-  purging_numbers = subst (λ xs. All (λ n. n < length cs) xs) failed_is (λ k d at. let less = done.numbers k d at in omega (arith, less, le))
+  pub purging_numbers : All (λ k. k < length cs) (drop n left)
+  purging_numbers = subst (λ xs. All (λ k. k < length cs) xs) failed_is (λ k d at. let less = done.numbers k d at in omega (arith, less, le))
 
-  pub purging_count : min (faults + (length left - length first)) (2 ^ 64 - 1) ≤ later
+  pub purging_count : min (faults + (m - n)) (2 ^ 64 - 1) ≤ later
   purging_count =
       let len : length left ≡ length first + length done.failed = ap length done.is ∙ length-append first done.failed in
       let h = done.count in
-      omega (arith, h, len)
+      omega (arith, h, len, is_n, is_m)
+
+  pub purging_later : faults ≤ later
+  purging_later = done.later_is
+
+-- there is room for one number more
+pub purging_room : (first : List ℕ) (faults : ℕ) (told : Option Tree) (i : ℕ) (cs : List Change) (left : List ℕ) (later : ℕ) (now : Option Tree) (n m room cap : ℕ)
+    → n ≡ length first → m ≡ length left → Purging first faults told i cs left later now → i < length cs → n + length cs ≤ cap → room ≡ cap → m < room
+purging_room first faults told i cs left later now n m room cap is_n is_m done below fits same =
+    let len : length left ≡ length first + length done.failed = ap length done.is ∙ length-append first done.failed in
+    let few = done.few in
+    omega (arith, len, few, is_n, is_m, below, fits, same)

@@ -139,7 +139,7 @@ leads_map f (Some a) (Some b) h = f a b h
 
 -- what two calls keep, they keep together
 pub then_too : (P : Tree → Type 0) (t u v : Option Tree) → Leads (λ before now. P before → P now) t u → Leads (λ before now. P before → P now) u v → Leads (λ before now. P before → P now) t v
-then_too P t u v first second = leads_then (λ (before mid now : Tree) (f : P before → P mid) (g : P mid → P now) (p : P before). g (f p)) t u v first second
+then_too P t u v first second = leads_then {C = λ before now. P before → P now} (λ (before mid now : Tree) (f : P before → P mid) (g : P mid → P now) (p : P before). g (f p)) t u v first second
 
 -- what holds of the tree before gives what the call leads to
 pub leads_from : {P : Tree → Type 0} {A B : Tree → Tree → Type 0} → ((a b : Tree) → P a → A a b → B a b) → (t u : Option Tree) → IfSome t P → Leads A t u → Leads B t u
