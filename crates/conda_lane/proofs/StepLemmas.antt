@@ -4,16 +4,15 @@ use Rattle.std.specs.Str.{bytes_eq}
 use Rattle.std.specs.FinMap as map
 use Rattle.conda_path.specs.declared.values.Node.{Node}
 use Rattle.conda_device.specs.Fault.{BeforeOrAsked}
-use Rattle.conda_device.specs.Tree.{Tree, CanMove, move, moved, without}
+use Rattle.conda_device.specs.Tree.{Tree, move, moved, without}
 use Rattle.conda_device.specs.Trees.{get_erased, get_moved}
 use Rattle.conda_lane.specs.declared.change.Change.{Change}
 use Rattle.conda_lane.specs.Calls.{Leads}
 use Rattle.conda_lane.specs.Changes.{IsMoved, IsReady, at}
 use Rattle.conda_lane.specs.Purge.{IsErased, erased_trash}
-use Rattle.conda_lane.specs.Steps.{Goes, IsChange}
-use Rattle.conda_lane.specs.Undo.{HasOneNode, IsClearedAt, IsMovedBackAt, cleared, moved_back, undone_trash}
+use Rattle.conda_lane.specs.Steps.{Goes}
+use Rattle.conda_lane.specs.Undo.{IsClearedAt, IsMovedBackAt, cleared, moved_back, undone_trash}
 use Rattle.conda_lane.proofs.Lists.{apart_sym, eq_self}
-use Rattle.conda_lane.proofs.UndoLemmas.{none_there}
 
 pub on_err : {A E : Type 0} {P : Type 0} (result : Result A E) → P → OnErr result P
 on_err (Ok x) h = tt

@@ -9,7 +9,7 @@ mod step;
 mod undoing;
 
 pub use change::Change;
-pub use laws::undo_laws;
+pub use laws::{share_laws, undo_laws};
 pub use moving::move_out;
 pub use purging::purge;
 pub use undoing::{undo, undo_moves, undo_puts};
