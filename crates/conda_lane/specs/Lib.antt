@@ -1,0 +1,6 @@
+pub mod Changes
+pub mod Undo
+pub mod Calls
+pub mod Purge
+pub mod Steps
+pub mod Shares
