@@ -7,5 +7,5 @@ mod nodes;
 mod plan;
 
 pub use answers::{cached, path_of, shown_abilities, shown_node, shown_paths, shown_seen, word};
-pub use nodes::{kind_word, node_of, shown_tree, tree_of};
+pub use nodes::{kind_word, named_nodes, node_of, shown_tree, tree_of};
 pub use plan::{effect_of, plan_of, target_of};
