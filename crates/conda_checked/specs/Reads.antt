@@ -1,5 +1,5 @@
 -- Why a checked read has no answer, and what it read. This project's own.
-use Rattle.std.specs.Prelude.{◌≡◌, ◌≢◌, ℕ, ◌+◌, ◌-◌, ◌^◌, ◌≤◌, List, min, Option, Some, Result, IsErrOf}
+use Rattle.std.specs.Prelude.{◌≡◌, ℕ, ◌+◌, ◌-◌, ◌^◌, ◌≤◌, List, min, Option, Some, Result, IsErrOf}
 use Rattle.conda_path.specs.declared.slot.SlotKey.{SlotKey}
 use Rattle.conda_path.specs.declared.values.Digest.{Digest}
 use Rattle.conda_device.specs.Fault.{Rose}
@@ -32,6 +32,12 @@ abbrev pub IfMismatch : CheckErr → (Digest → Digest → Type 0) → Type 0
 IfMismatch (Mismatch want found) P = P want found
 IfMismatch error P = Unit {0}
 
+-- the error is one of the file: it is absent, or it differs
+abbrev pub IsOfFile : CheckErr → Type 0
+IsOfFile Absent = Unit {0}
+IsOfFile (Mismatch want found) = Unit {0}
+IsOfFile error = ⊥
+
 -- where the device failed or there was no memory
 abbrev pub IfUnread : CheckErr → Type 0 → Type 0
 IfUnread Failed P = P
@@ -56,4 +62,4 @@ check_of key path size found = record { key = key; path = path; max = read_limit
 pub record GotOther (key : SlotKey) (path : List ℕ) (size : ℕ) (digest found : Digest) (before now : Option StoreState) : Type 0 where
   pub count : ℕ
   pub got : now ≡ with_got before (check_of key path size (Some (count, found)))
-  pub other : (count, found) ≢ (size, digest)
+  pub other : ¬ ((count ≡ size) × (found ≡ digest))

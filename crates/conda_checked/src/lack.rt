@@ -1,7 +1,7 @@
-ghost use Rattle.std.specs.Prelude.{◌≡◌, None, Some, IfErr, IfOk, IfSome, IsErrOf};
+ghost use Rattle.std.specs.Prelude.{◌≡◌, List, ℕ, None, Some, IfErr, IfOk, IsErrOf, option_map};
 ghost use Rattle.conda_checked.specs.Lacks.{lacks_after, no_lacks, with_absent, with_mismatch};
 ghost use Rattle.conda_checked.specs.Lacks.{stored_path};
-ghost use Rattle.conda_checked.specs.Reads.{Differs, IfMismatch};
+ghost use Rattle.conda_checked.specs.Reads.{Differs, IfMismatch, IsOfFile};
 ghost use Rattle.conda_paths.specs.Listings.{IsListedFile};
 
 use crate::error::CheckErr;
@@ -105,8 +105,10 @@ impl Lacks {
         ensures ok { IfOk result (λ bytes. (came ≡ Some bytes)
             × IsListedFile bytes.items size want.now) }
         ensures absent { IsErrOf result CheckErr.Absent → came ≡ None }
-        ensures mismatch { IfErr result (λ e. IfMismatch e (λ wanted found.
-            IfSome came (λ bytes. Differs bytes.items size want.now wanted found))) }
+        ensures mismatch { IfErr result (λ e. IfMismatch e (λ wanted found. (bytes : List ℕ)
+            × (option_map (λ vec. vec.items) came ≡ Some bytes)
+            × Differs bytes size want.now wanted found)) }
+        ensures settled { IfErr result IsOfFile }
         ensures lacks { self.new
             ≡ lacks_after path (Some (size, want.now)) self.old result }
     {
