@@ -41,9 +41,13 @@ with_touched told touched = option_map (touched_too touched) told
 
 -- ---- what a read gives
 
+-- the size and the digest of the bytes, where some were given
+abbrev pub found_of : Option (List ℕ) → Option (ℕ × Digest)
+found_of read = option_map (λ bytes. (length bytes, digest_of bytes)) read
+
 -- the read of this file, of at most so many bytes, that gave these bytes or found nothing
 abbrev pub got_of : SlotKey → List ℕ → ℕ → Option (List ℕ) → Got
-got_of key path max read = record { key = key; path = path; max = max; found = option_map (λ bytes. (length bytes, digest_of bytes)) read }
+got_of key path max read = record { key = key; path = path; max = max; found = found_of read }
 
 -- with this as the last read
 abbrev pub got_last : Got → StoreState → StoreState
