@@ -101,13 +101,6 @@ fn add_faults<R: Files + AllocGlobal + Clone + Drop>(faults: &mut FaultCount, la
     faults.count = total;
 }
 
-/// Adds the faults of a handle to a count.
-fn add(faults: &mut FaultCount, more: u64)
-    ensures { faults.new.count ≡ min (faults.old.count + more) (2 ^ 64 - 1) }
-{
-    faults.count = faults.count.saturating_add(more);
-}
-
 impl<R: Files + AllocGlobal + Clone + Send + Drop> Host for RealHost<R> {
     type Lane = RealLane<R>;
 
@@ -170,7 +163,7 @@ impl<R: Files + AllocGlobal + Clone + Send + Drop> Host for RealHost<R> {
         ensures { TakesChan (⟦<RealChan<R> as Chan>⟧.faults chan)
             (⟦<RealHost<R> as Host>⟧.state self.old) (⟦<RealHost<R> as Host>⟧.state self.new) }
     {
-        add(&mut self.chan_faults, chan.faults());
+        self.chan_faults.add(chan.faults());
     }
 
     fn store(&mut self, alloc: Global, root: &str) -> Result<RealStore<R>, DeviceErr> {
@@ -183,6 +176,6 @@ impl<R: Files + AllocGlobal + Clone + Send + Drop> Host for RealHost<R> {
             (⟦<RealStore<R> as Store>⟧.faults store)
             (⟦<RealHost<R> as Host>⟧.state self.old) (⟦<RealHost<R> as Host>⟧.state self.new) }
     {
-        add(&mut self.store_faults, store.faults());
+        self.store_faults.add(store.faults());
     }
 }
