@@ -1,12 +1,10 @@
 ghost use Rattle.std.specs.Prelude.{◌≡◌};
-ghost use Rattle.conda_real.specs.Refusals.{device_count_after};
+ghost use Rattle.conda_files.specs.Refusals.{device_count_after};
 
-use crate::names::ordered_folders_with;
-use crate::places::{Found, found_at, is_inside, place_in};
-use crate::reading::{bytes_at, target_bytes};
-use crate::refusal::{answered, done};
 use conda_base::{Bytes, Text};
 use conda_device::{Chan, DeviceErr, FaultCount, Seen, Shown};
+use conda_files::{Found, answered, bytes_at, done, found_at, is_inside, ordered_folders_with};
+use conda_files::{place_in, target_bytes};
 use conda_path::Kind;
 use std::alloc::Global;
 use std::rt::Files;

@@ -8,10 +8,10 @@ ghost use Rattle.conda_real.specs.RealLanes.{faults_of, share_of};
 
 use crate::chan::RealChan;
 use crate::lane::RealLane;
-use crate::places::place_in;
 use crate::store::RealStore;
 use conda_base::{Copied, Text};
 use conda_device::{Chan, DeviceErr, FaultCount, Host, Lane, Store};
+use conda_files::place_in;
 use conda_path::Prefix;
 use std::alloc::{AllocError, Global};
 use std::collections::BTreeMap;

@@ -1,13 +1,10 @@
 ghost use Rattle.std.specs.Prelude.{◌≡◌, ◌≤◌};
 
-use crate::coming::{Coming, bring, drop_empty, make, temporary_place};
-use crate::places::{Found, found_at, is_behind_link, place_in, slot_folder};
-use crate::reading::{node_at, seen_at};
-use crate::refusal::{done, refused};
-use crate::share::Share;
-use crate::walk::paths_below;
 use conda_base::Text;
 use conda_device::{Abilities, DeviceErr, Failed, FaultCount, Lane, Seen};
+use conda_files::{Coming, Found, Share, bring, done, drop_empty, found_at, is_behind_link, make};
+use conda_files::{node_at, paths_below, place_in, refused, seen_at, slot_folder};
+use conda_files::{temporary_place};
 use conda_path::{Kind, Node, RelPath, StorePath};
 use std::alloc::{AllocError, Global};
 use std::io::{self, ErrorKind};

@@ -1,12 +1,9 @@
 ghost use Rattle.std.specs.Prelude.{◌≡◌};
 
-use crate::coming::{make, temporary_place};
-use crate::names::{MARK, ready_keys};
-use crate::places::{place_in, slot_folder};
-use crate::reading::bytes_at;
-use crate::refusal::{answered, done, is_absent};
 use conda_base::Text;
 use conda_device::{DeviceErr, Failed, FaultCount, Store};
+use conda_files::{MARK, answered, bytes_at, done, is_absent, make, place_in, ready_keys};
+use conda_files::{slot_folder, temporary_place};
 use conda_path::{Kind, RelPath, SlotKey};
 use std::alloc::Global;
 use std::fs;

@@ -1,7 +1,7 @@
 ghost use Rattle.std.specs.Prelude.{◌≡◌, ◌≤◌, ◌<◌, true, IfOk, IfSome, OnOk, length, take};
 ghost use Rattle.std.specs.Io.KnownBytes.{Consumes, IsAtEnd};
-ghost use Rattle.conda_real.specs.Reads.{Took};
-ghost use Rattle.conda_real.specs.Refusals.{count_after, device_count_after};
+ghost use Rattle.conda_files.specs.Reads.{Took};
+ghost use Rattle.conda_files.specs.Refusals.{count_after, device_count_after};
 
 use crate::places::{Found, file_size, found_at, is_behind_link};
 use crate::refusal::{answered, done, refused};

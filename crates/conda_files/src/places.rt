@@ -1,5 +1,5 @@
 ghost use Rattle.std.specs.Prelude.{◌≡◌};
-ghost use Rattle.conda_real.specs.Places as rules;
+ghost use Rattle.conda_files.specs.Places as rules;
 
 use crate::refusal::is_absent;
 use conda_device::Seen;
