@@ -1,6 +1,5 @@
 use Rattle.std.proofs.Common.{◌≡◌, ◌==◌, T, ℕ, List, All, eqb→eq, filter, nat_eq, subst, sym}
 use Rattle.std.specs.Cmp.Lexicographic.{pointwise}
-use Rattle.std.specs.List.{dedup}
 use Rattle.std.specs.List.Sorted.{IsPermutation}
 use Rattle.std.proofs.lemmas.List.Filters.{dedup_is}
 use Rattle.conda_base.specs.Texts.{Ascending}
