@@ -8,6 +8,9 @@ pub use Rattle.conda_device.specs.Stores
 pub use Rattle.conda_device.specs.Streams
 pub use Rattle.conda_device.specs.Tree
 pub use Rattle.conda_device.specs.Trees
-pub mod Plan
+pub use Rattle.conda_mem.specs.Entries
+pub use Rattle.conda_mem.specs.Given
+pub use Rattle.conda_mem.specs.Handles
+pub use Rattle.conda_mem.specs.Plan
 pub mod Shares
 pub mod Memory

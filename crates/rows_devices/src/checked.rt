@@ -1,3 +1,4 @@
+use crate::chan::host_of;
 use conda_base::{Rows, Text};
 use conda_checked::{CheckErr, Checked, Lack};
 use conda_dev::{Chan, Host, MemHost, Store};
@@ -5,13 +6,13 @@ use conda_path::{Digest, Node, RelPath, SlotKey};
 use hex::FromHex;
 use rows_plan::{first_word, key_of, node_of, plan_of, shown_bytes, shown_look};
 use std::alloc::{AllocError, Global};
-use std::rt::Wait;
+use std::sync::Wait;
 
 /// The rows of conda_checked. The first argument is a plan of failing calls, the second the nodes
 /// `PATH KIND TEXT` of the channel `main` or of the package `main/noarch/a-1.0-0` in the cache, the
 /// third calls of the handles 0 and 1, all parted by `;`: `HANDLE need PATH MAX`, `HANDLE maybe PATH
 /// MAX`, `HANDLE shown PATH`, `HANDLE good PATH SIZE DIGEST`.
-pub fn answer<R: Wait + Clone + Drop>(
+pub fn answer<R: Wait + Sync>(
     rt: &R,
     alloc: Global,
     call: &str,
@@ -39,22 +40,14 @@ fn nodes_of(alloc: Global, text: &str) -> Result<Vec<(RelPath, Node)>, AllocErro
     Ok(nodes)
 }
 
-fn over_channel<R: Wait + Clone + Drop>(
+fn over_channel<R: Wait + Sync>(
     rt: &R,
     alloc: Global,
     plan: &str,
     files: &str,
     calls: &str,
 ) -> Result<Option<String>, AllocError> {
-    let mut nodes = Vec::new(alloc);
-    for (path, node) in nodes_of(alloc, files)? {
-        nodes.push((Text::from_str(alloc, path.as_str())?, node))?;
-    }
-    let mut channels = Vec::new(alloc);
-    channels.push((Text::from_str(alloc, "main")?, Rows::from_vec(nodes)))?;
-    let (none, cached) = (Vec::new(alloc), Vec::new(alloc));
-    let plan = plan_of(alloc, plan)?;
-    let mut host = MemHost::make(rt.clone()?, alloc, none, channels, cached, plan)?;
+    let mut host = host_of(rt, alloc, plan, files)?;
     let (Ok(first), Ok(second)) = (host.chan(alloc, "c", "main"), host.chan(alloc, "c", "main"))
     else {
         return Ok(None);
@@ -97,7 +90,7 @@ fn call_chan<C: Chan>(
     }
 }
 
-fn over_cache<R: Wait + Clone + Drop>(
+fn over_cache<R: Wait + Sync>(
     rt: &R,
     alloc: Global,
     plan: &str,
@@ -111,7 +104,7 @@ fn over_cache<R: Wait + Clone + Drop>(
     cached.push((key.clone()?, Rows::from_vec(nodes_of(alloc, files)?)))?;
     let (none, channels) = (Vec::new(alloc), Vec::new(alloc));
     let plan = plan_of(alloc, plan)?;
-    let mut host = MemHost::make(rt.clone()?, alloc, none, channels, cached, plan)?;
+    let mut host = MemHost::make(rt, alloc, none, channels, cached, plan)?;
     let Ok(store) = host.store(alloc, "pkgs") else {
         return Ok(None);
     };

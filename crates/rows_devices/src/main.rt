@@ -1,18 +1,27 @@
 //! The rows of the devices and of the machine over events.
 #![tactic(auto)]
 
+mod chan;
+mod checked;
 mod dev;
+mod held;
 mod lane;
 mod machine;
+mod store;
 
 use conda_base::Text;
 use rows_text::{Table, print_rows};
 use std::alloc::{AllocError, Global};
 use std::io;
+use std::sync::Wait;
+use std::thread::Threads;
 
-struct Devices;
+#[derive(Drop)]
+struct Devices<R> {
+    rt: R,
+}
 
-impl Table for Devices {
+impl<R: Threads + Wait + Sync> Table for Devices<R> {
     fn answer(
         &self,
         alloc: Global,
@@ -22,10 +31,17 @@ impl Table for Devices {
         if let Some(answer) = machine::answer(alloc, call, arguments)? {
             return Ok(Some(answer));
         }
-        dev::answer(alloc, call, arguments)
+        if let Some(answer) = held::answer(&self.rt, alloc, call, arguments)? {
+            return Ok(Some(answer));
+        }
+        if let Some(answer) = checked::answer(&self.rt, alloc, call, arguments)? {
+            return Ok(Some(answer));
+        }
+        dev::answer(&self.rt, alloc, call, arguments)
     }
 }
 
 fn main(rt: HostRuntime) -> io::Result<()> {
-    print_rows(&rt, &Devices)
+    let devices = Devices { rt: rt.clone()? };
+    print_rows(&rt, &devices)
 }

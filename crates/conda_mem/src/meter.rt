@@ -1,7 +1,7 @@
 ghost use Rattle.std.specs.Prelude.{◌≡◌, ◌≤◌, IsSome, OnErr};
 ghost use Rattle.conda_device.specs.Fault.{HasCause, Rose};
-ghost use Rattle.conda_dev.specs.Plan as plan;
-ghost use Rattle.conda_dev.specs.Plan.{effect_at, next_call};
+ghost use Rattle.conda_mem.specs.Plan as plan;
+ghost use Rattle.conda_mem.specs.Plan.{effect_at, next_call};
 
 use crate::fault::{Effect, Planned};
 use conda_device::{Failed, FaultCount};

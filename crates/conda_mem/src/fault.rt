@@ -1,5 +1,5 @@
 ghost use Rattle.std.specs.Prelude.{◌≡◌, ◌++◌, IfOk, OnOk};
-ghost use Rattle.conda_dev.specs.Plan.{is_lane, plan_of, same_target, stops_of};
+ghost use Rattle.conda_mem.specs.Plan.{is_lane, plan_of, same_target, stops_of};
 
 use conda_base::Copied;
 use conda_path::Prefix;
@@ -18,6 +18,10 @@ pub enum Target {
     /// The lanes of a prefix with this number, one after another. `MemLane::make` passes over the
     /// prefix.
     Lane { prefix: Prefix, number: u32 },
+    /// The handle on a channel that was made after so many others.
+    Chan(u32),
+    /// The handle on the cache folder that was made after so many others.
+    Store(u32),
     Host,
     Input,
     Output,

@@ -1,11 +1,11 @@
 -- Which calls of a memory form fail. This project's own.
 use Rattle.std.specs.Prelude.{◌==◌, nat_lt, ℕ, ◌+◌, ◌-◌, ◌^◌, min, Bool, true, false, ◌&&◌, if◌then◌else◌, List, [], ◌∷◌, filter, map, Option, Some, None}
 use Rattle.std.specs.Str.{bytes_eq}
-use Rattle.conda_dev.specs.declared.fault.Effect.{Effect}
-use Rattle.conda_dev.specs.declared.fault.FailAt.{FailAt}
-use Rattle.conda_dev.specs.declared.fault.Planned.{Planned}
-use Rattle.conda_dev.specs.declared.fault.Target.{Target}
-use Rattle.conda_dev.specs.declared.fault.Target.TheVariants.{Lane, Host, Input, Output}
+use Rattle.conda_mem.specs.declared.fault.Effect.{Effect}
+use Rattle.conda_mem.specs.declared.fault.FailAt.{FailAt}
+use Rattle.conda_mem.specs.declared.fault.Planned.{Planned}
+use Rattle.conda_mem.specs.declared.fault.Target.{Target}
+use Rattle.conda_mem.specs.declared.fault.Target.TheVariants.{Lane, Chan, Store, Host, Input, Output}
 
 -- the number of the call after this many calls
 abbrev pub next_call : ℕ → ℕ
@@ -29,6 +29,8 @@ effect_at (entry ∷ rest) call = first_effect (effect_of entry call) (effect_at
 -- whether two targets are one
 abbrev pub same_target : Target → Target → Bool
 same_target (Lane prefix number) (Lane other place) = bytes_eq prefix other && (number == place)
+same_target (Chan place) (Chan other) = place == other
+same_target (Store place) (Store other) = place == other
 same_target Host Host = true
 same_target Input Input = true
 same_target Output Output = true

@@ -1,0 +1,3 @@
+pub mod FolderLemmas
+pub mod NamesLemmas
+pub mod GivenLemmas
