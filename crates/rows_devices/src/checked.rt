@@ -19,10 +19,10 @@ pub fn answer<R: Wait + Sync>(
     arguments: &[Text],
 ) -> Result<Option<String>, AllocError> {
     match (call, arguments) {
-        ("checked.chan", [plan, files, calls]) => {
+        ("check.chan", [plan, files, calls]) => {
             over_channel(rt, alloc, plan.as_str(), files.as_str(), calls.as_str())
         }
-        ("checked.store", [plan, files, calls]) => {
+        ("check.store", [plan, files, calls]) => {
             over_cache(rt, alloc, plan.as_str(), files.as_str(), calls.as_str())
         }
         _ => Ok(None),
