@@ -56,7 +56,11 @@ fn over_channel<R: Wait + Sync>(
     let mut made = String::new(alloc);
     for call in calls.split(';') {
         let (number, call) = first_word(call.trim());
-        let chan = if number == "1" { &mut second } else { &mut first };
+        let chan = if number == "1" {
+            &mut second
+        } else {
+            &mut first
+        };
         made.push_str(call_chan(alloc, chan, call)?.as_str())?;
         made.push_str("; ")?;
     }
@@ -115,7 +119,13 @@ fn over_cache<R: Wait + Sync>(
         made.push_str("; ")?;
     }
     let faults = store.inner.faults();
-    push_counts(&mut made, alloc, store.absents(), store.mismatches(), faults)?;
+    push_counts(
+        &mut made,
+        alloc,
+        store.absents(),
+        store.mismatches(),
+        faults,
+    )?;
     push_lack(&mut made, alloc, store.last())?;
     Ok(Some(made))
 }
@@ -153,10 +163,7 @@ fn push_digest(made: &mut String, alloc: Global, digest: &Digest) -> Result<(), 
 }
 
 /// What a read of a file that has to be there came to.
-fn shown_check(
-    alloc: Global,
-    read: Result<Vec<u8>, CheckErr>,
-) -> Result<String, AllocError> {
+fn shown_check(alloc: Global, read: Result<Vec<u8>, CheckErr>) -> Result<String, AllocError> {
     match read {
         Ok(bytes) => shown_bytes::<CheckErr>(alloc, Ok(Some(bytes))),
         Err(e) => shown_err(alloc, e),
@@ -183,7 +190,13 @@ fn push_chan<C: Chan>(
     alloc: Global,
     chan: &Checked<C>,
 ) -> Result<(), AllocError> {
-    push_counts(made, alloc, chan.absents(), chan.mismatches(), chan.inner.faults())?;
+    push_counts(
+        made,
+        alloc,
+        chan.absents(),
+        chan.mismatches(),
+        chan.inner.faults(),
+    )?;
     push_lack(made, alloc, chan.last())
 }
 

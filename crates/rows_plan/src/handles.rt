@@ -144,10 +144,7 @@ pub fn shown_bytes<E: Drop>(
 }
 
 /// What a listing came to.
-fn shown_texts<E: Drop>(
-    alloc: Global,
-    texts: Result<Vec<Text>, E>,
-) -> Result<String, AllocError> {
+fn shown_texts<E: Drop>(alloc: Global, texts: Result<Vec<Text>, E>) -> Result<String, AllocError> {
     let Ok(texts) = texts else {
         return String::from_str(alloc, "failed");
     };
