@@ -2,6 +2,7 @@
 #![tactic(auto)]
 
 mod chan;
+mod checked;
 mod dev;
 mod held;
 mod lane;
@@ -31,6 +32,9 @@ impl<R: Threads + Wait + Sync> Table for Devices<R> {
             return Ok(Some(answer));
         }
         if let Some(answer) = held::answer(&self.rt, alloc, call, arguments)? {
+            return Ok(Some(answer));
+        }
+        if let Some(answer) = checked::answer(&self.rt, alloc, call, arguments)? {
             return Ok(Some(answer));
         }
         dev::answer(&self.rt, alloc, call, arguments)

@@ -1,7 +1,7 @@
 ghost use Rattle.std.specs.Prelude.{◌≡◌, ◌≤◌};
 ghost use Rattle.std.specs.IoError.{error_kind};
 ghost use Rattle.conda_device.specs.Fault.{Rose};
-ghost use Rattle.conda_real.specs.Refusals.{ComesTo, IsDone, count_after, one_more, says_absent};
+ghost use Rattle.conda_files.specs.Refusals.{ComesTo, IsDone, count_after, one_more, says_absent};
 
 use conda_device::{Failed, FaultCount};
 use std::io::{self, Error, ErrorKind};

@@ -1,7 +1,7 @@
 -- what was kept so far, and what is to keep of the others, is what is to keep of all
 use Rattle.std.proofs.Common.{◌≡◌, ◌==◌, ◌++◌, filter}
 use Rattle.conda_path.specs.Lanes.{lane_number}
-use Rattle.conda_real.proofs.walk.of_share.Given as goal
+use Rattle.conda_files.proofs.walk.of_share.Given as goal
 
 abbrev pub invariant-loop-path : goal.invariant-loop-path
 invariant-loop-path l =

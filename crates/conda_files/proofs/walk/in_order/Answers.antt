@@ -1,12 +1,11 @@
 use Rattle.std.proofs.Common.{◌≡◌, ◌==◌, T, ℕ, List, All, eqb→eq, filter, nat_eq, subst, sym}
 use Rattle.std.specs.Cmp.Lexicographic.{pointwise}
-use Rattle.std.specs.List.{dedup}
 use Rattle.std.specs.List.Sorted.{IsPermutation}
 use Rattle.std.proofs.lemmas.List.Filters.{dedup_is}
 use Rattle.conda_base.specs.Texts.{Ascending}
 use Rattle.conda_path.specs.Lanes.{lane_number}
-use Rattle.conda_real.proofs.WalkLemmas.{once_sorted, still_passes}
-use Rattle.conda_real.proofs.walk.in_order.Goals as goal
+use Rattle.conda_files.proofs.WalkLemmas.{once_sorted, still_passes}
+use Rattle.conda_files.proofs.walk.in_order.Goals as goal
 
 pub returns-clause-ascending : goal.returns-clause-ascending
 returns-clause-ascending c =

@@ -1,7 +1,7 @@
 -- what was read so far is what the reader had, up to what it has left
 use Rattle.std.proofs.Common.{◌≡◌, ◌≤◌, length}
 use Rattle.std.specs.Io.KnownBytes.{Consumes}
-use Rattle.conda_real.proofs.reading.read_by.Given as goal
+use Rattle.conda_files.proofs.reading.read_by.Given as goal
 
 abbrev pub invariant-loop : goal.invariant-loop
 invariant-loop g l = record {
