@@ -1,0 +1,5 @@
+pub mod Matching
+pub mod Variables
+pub mod Solution
+pub mod Clauses
+pub mod Models

@@ -2,9 +2,18 @@
 #![tactic(auto)]
 
 mod asked;
+// mod encode;
 mod encoded;
 mod error;
+// mod known;
+mod laws;
+// mod reach;
+mod written;
+pub mod flat;
 
 pub use asked::{AskKind, Asked};
+// pub use encode::encode;
 pub use encoded::{Encoded, Why};
 pub use error::EncodeErr;
+pub use laws::encode_laws;
+// pub use reach::set_of;
