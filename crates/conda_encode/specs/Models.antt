@@ -1,12 +1,13 @@
 -- What sides of the variables say of the records.
-use Rattle.std.specs.Prelude.{◌≡◌, ◌↔◌, ◌≤◌, ℕ, Bool, true, List, filter, map, length}
+use Rattle.std.specs.Prelude.{◌≡◌, ◌↔◌, ℕ, Bool, true, List, filter, map}
 use Rattle.std.specs.List.{Contains, list_all}
 use Rattle.conda_refute.specs.Literals.{clause_true}
 use Rattle.conda_record.specs.declared.pkg_record.PkgRecord.{PkgRecord}
 use Rattle.conda_record.specs.declared.pool.NamePool.{NamePool}
 use Rattle.conda_encode.specs.Clauses.{clauses}
-use Rattle.conda_encode.specs.Solution.{HaveOtherNames, IsReached}
-use Rattle.conda_encode.specs.Variables.{records, variables}
+use Rattle.conda_encode.specs.Matching.{lowered}
+use Rattle.conda_encode.specs.Solution.{IsReached}
+use Rattle.conda_encode.specs.Variables.{variables}
 use Rattle.conda_encode.specs.declared.asked.Asked.{Asked}
 
 -- all clauses are true
@@ -29,4 +30,4 @@ pub record Chooses (pools : List NamePool) (v : ℕ → Bool) (set : List PkgRec
   pub only : (x : ℕ × PkgRecord) → Contains (variables pools) x → v x.0 ≡ true → Contains set x.1
   pub all : (m : PkgRecord) → Contains set m → (n : ℕ) × Contains (variables pools) (n, m) × (v n ≡ true)
   pub once : (x y : ℕ × PkgRecord) → Contains (variables pools) x → Contains (variables pools) y →
-    v x.0 ≡ true → v y.0 ≡ true → (HaveOtherNames x.1 y.1 → ⊥) → x.0 ≡ y.0
+    v x.0 ≡ true → v y.0 ≡ true → lowered x.1.name ≡ lowered y.1.name → x.0 ≡ y.0

@@ -1,0 +1,7 @@
+pub mod Members
+pub mod Sides
+pub mod Cuts
+pub mod Literals
+pub mod Meaning
+pub mod Ones
+pub mod Requests
