@@ -5,3 +5,5 @@ pub mod Literals
 pub mod Meaning
 pub mod Ones
 pub mod Requests
+pub mod Zips
+pub mod Kept

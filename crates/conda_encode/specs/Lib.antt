@@ -3,3 +3,4 @@ pub mod Variables
 pub mod Solution
 pub mod Clauses
 pub mod Models
+pub mod Known

@@ -1,5 +1,5 @@
 -- The variables of a request: this project's own.
-use Rattle.std.specs.Prelude.{◌≡◌, ◌≢◌, ℕ, ◌+◌, ◌-◌, ◌<◌, ◌^◌, false, List, [], ◌∷◌, length}
+use Rattle.std.specs.Prelude.{◌≡◌, ◌≢◌, ℕ, ◌+◌, ◌-◌, ◌<◌, ◌^◌, false, List, [], ◌∷◌, length, slice_index_or}
 use Rattle.std.specs.List.{AllPairs, Contains, flat_map, list_any, sum_by}
 use Rattle.conda_base.specs.Signs.{star}
 use Rattle.conda_base.specs.Texts.{is_byte}
@@ -29,6 +29,10 @@ helpers_of pool = length pool.recs - 1
 -- the number of variables: one a record, and behind them the helpers
 abbrev pub vars_of : List NamePool → ℕ
 vars_of pools = length (records pools) + sum_by helpers_of pools
+
+-- the pool at this place has this name
+abbrev pub IsOneNamed : List NamePool → ℕ → List ℕ → Type 0
+IsOneNamed pools at name = (at < length pools) × ((d : NamePool) → (slice_index_or pools at d).name ≡ name)
 
 -- the specification's name has no star
 abbrev pub IsPlain : Parts → Type 0

@@ -1,12 +1,13 @@
-ghost use Rattle.std.specs.Prelude.{◌≡◌, ◌<◌, ◌^◌, ◌+◌, IfOk, IfSome, MatchOption, map, filter, not, ℕ, length, slice_get, Some, take};
+ghost use Rattle.std.specs.Prelude.{◌≡◌, ◌<◌, ◌^◌, ◌+◌, IfOk, IfSome, MatchOption, OnErr, OnOk, map, filter, not, ℕ, length, slice_get, string_bytes, Some, Ok};
 ghost use Rattle.std.specs.List.{All};
-ghost use Rattle.conda_spec.specs.Parts.{Parts};
-ghost use Rattle.conda_record.specs.declared.pool.NamePool.{NamePool};
-ghost use Rattle.conda_encode.specs.Clauses.{each_barred, off, on, some_named};
-ghost use Rattle.conda_encode.specs.Known.{IsKnown, IsSplit, starts_of};
+ghost use Rattle.conda_version.specs.Text.{trimmed};
+ghost use Rattle.conda_spec.specs.Reading.{spec_read};
+ghost use Rattle.conda_encode.specs.Clauses.{off, on};
+ghost use Rattle.conda_encode.specs.Known.{IsKnown, IsSplitOf, starts_of};
 ghost use Rattle.conda_encode.specs.Matching.{names};
-ghost use Rattle.conda_encode.specs.Variables.{IsPlain, IsRequest, numbered, records};
+ghost use Rattle.conda_encode.specs.Variables.{IsOneNamed, IsPlain, numbered, records};
 
+use crate::matching::names_record;
 use conda_base::{Copied, Text};
 use conda_record::{NamePool, PkgRecord};
 use conda_spec::Spec;
@@ -58,33 +59,26 @@ fn starts_of(alloc: Global, pools: &[NamePool]) -> Result<Vec<u32>, AllocError>
 }
 
 /// Where the pool of the name stands, by a hint or else by looking at each pool.
-fn place_of(places: &HashMap<Text, usize>, pools: &[NamePool], name: &str) -> Option<usize>
+fn place_of(places: &HashMap<Text, usize>, pools: &[NamePool], name: &Text) -> Option<usize>
     ensures { MatchOption result (All (λ pool. pool.name ≡ name.now → ⊥) pools.now)
-        (λ at. (pool : NamePool) × (slice_get pools.now at ≡ Some pool) × (pool.name ≡ name.now)) }
+        (λ at. IsOneNamed pools.now at name.now) }
 {
     if let Some(at) = places.get(name).copied() {
         if let Some(pool) = pools.get(at) {
-            if pool.name.as_str() == name {
+            if pool.name == *name {
                 return Some(at);
             }
         }
     }
-    pools.iter().position(|pool| pool.name.as_str() == name)
+    for (at, pool) in pools.iter().enumerate() {
+        if pool.name == *name {
+            return Some(at);
+        }
+    }
+    None
 }
 
-fn names(spec: &Spec, rec: &PkgRecord) -> bool
-    ensures { result ≡ names spec.now rec.now }
-{
-    spec.matches(
-        rec.name.as_str(),
-        &rec.version,
-        rec.build.as_str(),
-        rec.build_number,
-        rec.channel.as_str(),
-        rec.subdir.as_str(),
-    )
-}
-
+#[tactic(auto, using(crate::proofs::Kept::kept_more, crate::proofs::Kept::left_more))]
 /// The variables of the records that the specification names, where the first has this one.
 fn named_of(
     alloc: Global,
@@ -98,13 +92,14 @@ fn named_of(
 {
     let mut list = Vec::new(alloc);
     for (at, rec) in recs.iter().enumerate() {
-        if names(spec, rec) {
+        if names_record(spec, rec) {
             list.push((first + at as u32) as i32)?;
         }
     }
     Ok(list)
 }
 
+#[tactic(auto, using(crate::proofs::Kept::kept_more, crate::proofs::Kept::left_more))]
 /// The opposites of the variables of the others.
 fn barred_of(
     alloc: Global,
@@ -118,80 +113,9 @@ fn barred_of(
 {
     let mut list = Vec::new(alloc);
     for (at, rec) in recs.iter().enumerate() {
-        if !names(spec, rec) {
+        if !names_record(spec, rec) {
             list.push(-((first + at as u32) as i32))?;
         }
     }
     Ok(list)
-}
-
-impl Known {
-    pub fn new(alloc: Global, pools: &[NamePool]) -> Result<Known, AllocError>
-        requires { length (records pools.now) < 2 ^ 28 }
-        ensures { IfOk result (IsKnown pools.now) }
-    {
-        Ok(Known {
-            places: places_of(alloc, pools)?,
-            starts: starts_of(alloc, pools)?,
-            found: HashMap::new(alloc),
-            splits: Vec::new(alloc),
-        })
-    }
-
-    /// The split of a specification that wasn't split yet.
-    fn fresh(
-        &self,
-        alloc: Global,
-        pools: &[NamePool],
-        spec: &Spec,
-        text: Text,
-    ) -> Result<Split, AllocError> {
-        let Some(at) = place_of(&self.places, pools, spec.name()) else {
-            return Ok(Split {
-                text,
-                named: Vec::new(alloc),
-                barred: Vec::new(alloc),
-            });
-        };
-        let first = self.starts[at];
-        let recs = pools[at].recs.as_slice();
-        Ok(Split {
-            text,
-            named: named_of(alloc, spec, first, recs)?,
-            barred: barred_of(alloc, spec, first, recs)?,
-        })
-    }
-
-    /// Where the split with this normal form stands, if the hint is right.
-    fn kept(&self, text: &str) -> Option<usize> {
-        let at = self.found.get(text).copied()?;
-        let split = self.splits.get(at)?;
-        if split.text.as_str() == text {
-            Some(at)
-        } else {
-            None
-        }
-    }
-
-    /// Where the split of a specification stands, which is made where there is none.
-    pub fn split(
-        &mut self,
-        alloc: Global,
-        pools: &[NamePool],
-        spec: &Spec,
-    ) -> Result<usize, AllocError> {
-        let text = match spec.text(alloc) {
-            Ok(text) => Text::from_string(text),
-            Err(_) => return Err(AllocError),
-        };
-        if let Some(at) = self.kept(text.as_str()) {
-            return Ok(at);
-        }
-        let key = text.copy()?;
-        let split = self.fresh(alloc, pools, spec, text)?;
-        let at = self.splits.len();
-        self.splits.push(split)?;
-        self.found.insert(key, at)?;
-        Ok(at)
-    }
 }

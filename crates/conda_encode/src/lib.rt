@@ -5,9 +5,10 @@ mod asked;
 // mod encode;
 mod encoded;
 mod error;
-// mod known;
+mod known;
 mod laws;
 // mod reach;
+mod matching;
 mod written;
 pub mod flat;
 
@@ -16,4 +17,5 @@ pub use asked::{AskKind, Asked};
 pub use encoded::{Encoded, Why};
 pub use error::EncodeErr;
 pub use laws::encode_laws;
+pub use matching::names_record;
 // pub use reach::set_of;

@@ -35,17 +35,21 @@ impl Written {
         }
     }
 
+    #[tactic(auto, using(crate::proofs::Zips::zip_push))]
     pub fn push(&mut self, why: Why, clause: Clause) -> Result<(), AllocError>
         ensures { OnOk result (self.new ≡ self.old ++ (why, clause) ∷ []) }
     {
         self.whys.push(why)?;
-        if self.clauses.push(clause).is_err() {
-            let _ = self.whys.pop();
-            return Err(AllocError);
+        match self.clauses.push(clause) {
+            Ok(()) => Ok(()),
+            Err(_) => {
+                let _ = self.whys.pop();
+                Err(AllocError)
+            }
         }
-        Ok(())
     }
 
+    #[tactic(auto, using(crate::proofs::Zips::zip_left, crate::proofs::Zips::zip_right))]
     /// The reasons and the clauses. It takes no memory.
     pub fn into_parts(self) -> (Rows<Why>, Rows<Clause>)
         ensures whys { result.0 ≡ map (λ r. r.0) self }
