@@ -7,3 +7,7 @@ pub mod Ones
 pub mod Requests
 pub mod Zips
 pub mod Kept
+pub mod Places
+pub mod Starts
+pub mod Splits
+pub mod Walks

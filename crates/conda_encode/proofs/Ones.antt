@@ -179,7 +179,7 @@ first_pair {A} R x y xs pairs i =
 pub rest_pairs : {A : Type 0} (R : A → A → Type 0) (x : A) (xs : List A) → AllPairs R (x ∷ xs) → AllPairs R xs
 rest_pairs R x xs pairs i j d lt short = pairs (suc i) (suc j) d (omega arith) (omega arith)
 
-rest_own : (pool : NamePool) (rest : List NamePool) → Own (pool ∷ rest) → Own rest
+pub rest_own : (pool : NamePool) (rest : List NamePool) → Own (pool ∷ rest) → Own rest
 rest_own pool rest o = record {
   own = λ p i. o.own p (inr i);
   apart = rest_pairs (λ (p q : NamePool). p.name ≢ q.name) pool rest o.apart;

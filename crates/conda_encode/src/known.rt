@@ -1,10 +1,11 @@
-ghost use Rattle.std.specs.Prelude.{◌≡◌, ◌<◌, ◌^◌, ◌+◌, IfOk, IfSome, MatchOption, OnErr, OnOk, map, filter, not, ℕ, length, slice_get, string_bytes, Some, Ok};
+ghost use Rattle.std.specs.Prelude.{◌≡◌, ◌<◌, ◌^◌, ◌+◌, IfOk, IfSome, MatchOption, OnErr, OnOk, map, filter, not, ℕ, length, slice_index_or, Ok};
 ghost use Rattle.std.specs.List.{All};
 ghost use Rattle.conda_version.specs.Text.{trimmed};
 ghost use Rattle.conda_spec.specs.Reading.{spec_read};
 ghost use Rattle.conda_encode.specs.Clauses.{off, on};
-ghost use Rattle.conda_encode.specs.Known.{IsKnown, IsSplitOf, starts_of};
+ghost use Rattle.conda_encode.specs.Known.{ArePools, HasSplit, IsKnown, IsSplitOf, starts_of};
 ghost use Rattle.conda_encode.specs.Matching.{names};
+ghost use Rattle.conda_encode.specs.declared.known.Split.{Split};
 ghost use Rattle.conda_encode.specs.Variables.{IsOneNamed, IsPlain, numbered, records};
 
 use crate::matching::names_record;
@@ -118,4 +119,90 @@ fn barred_of(
         }
     }
     Ok(list)
+}
+
+/// The split of the specification whose normal form this is.
+fn split_of(
+    alloc: Global,
+    places: &HashMap<Text, usize>,
+    starts: &[u32],
+    pools: &[NamePool],
+    spec: &Spec,
+    text: Text,
+) -> Result<Split, AllocError>
+    requires pools { ArePools pools.now }
+    requires starts { starts.now ≡ starts_of 1 pools.now }
+    requires plain { IsPlain spec.now }
+    requires text { spec_read (trimmed text) ≡ Ok spec.now }
+    ensures { IfOk result (IsSplitOf pools.now spec.now) }
+{
+    let name = Text::from_str(alloc, spec.name())?;
+    let Some(at) = place_of(places, pools, &name) else {
+        return Ok(Split {
+            text,
+            named: Vec::new(alloc),
+            barred: Vec::new(alloc),
+        });
+    };
+    let first = starts[at];
+    let recs = pools[at].recs.as_slice();
+    let named = named_of(alloc, spec, first, recs)?;
+    let barred = barred_of(alloc, spec, first, recs)?;
+    Ok(Split {
+        text,
+        named,
+        barred,
+    })
+}
+
+impl Known {
+    pub fn new(alloc: Global, pools: &[NamePool]) -> Result<Known, AllocError>
+        requires { length (records pools.now) < 2 ^ 28 }
+        ensures { IfOk result (IsKnown pools.now) }
+    {
+        Ok(Known {
+            places: places_of(alloc, pools)?,
+            starts: starts_of(alloc, pools)?,
+            found: HashMap::new(alloc),
+            splits: Vec::new(alloc),
+        })
+    }
+
+    /// Where the split with this normal form stands, if the hint is right.
+    fn kept(&self, text: &Text) -> Option<usize>
+        ensures { IfSome result (λ at. (at < length self.now.splits.items)
+            × ((d : Split) → (slice_index_or self.now.splits.items at d).text ≡ text.now)) }
+    {
+        let at = self.found.get(text).copied()?;
+        let split = self.splits.get(at)?;
+        if split.text == *text { Some(at) } else { None }
+    }
+
+    /// Where the split of a specification stands, which is made where there is none.
+    pub fn split(
+        &mut self,
+        alloc: Global,
+        pools: &[NamePool],
+        spec: &Spec,
+    ) -> Result<usize, AllocError>
+        requires pools { ArePools pools.now }
+        requires known { IsKnown pools.now self.old }
+        requires plain { IsPlain spec.now }
+        ensures known { OnOk result (IsKnown pools.now self.new) }
+        ensures split { IfOk result (HasSplit pools.now spec.now self.new) }
+    {
+        let text = match spec.text(alloc) {
+            Ok(text) => Text::from_string(text),
+            Err(_) => return Err(AllocError),
+        };
+        if let Some(at) = self.kept(&text) {
+            return Ok(at);
+        }
+        let key = text.copy()?;
+        let split = split_of(alloc, &self.places, self.starts.as_slice(), pools, spec, text)?;
+        let at = self.splits.len();
+        self.splits.push(split)?;
+        self.found.insert(key, at)?;
+        Ok(at)
+    }
 }
