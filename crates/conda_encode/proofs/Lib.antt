@@ -11,3 +11,7 @@ pub mod Places
 pub mod Starts
 pub mod Splits
 pub mod Walks
+pub mod Nonzero
+pub mod Lent
+pub mod Bounds
+pub mod Within

@@ -6,7 +6,7 @@ use Rattle.conda_refute.specs.Literals.{clause_true, literal_true}
 use Rattle.conda_spec.specs.Parts.{Parts}
 use Rattle.conda_record.specs.declared.pkg_record.PkgRecord.{PkgRecord}
 use Rattle.conda_record.specs.declared.pool.NamePool.{NamePool}
-use Rattle.conda_encode.specs.Clauses.{Reason, barred, barred_by, each_barred, needed, needed_by, off, on, pinned, pinned_at, some_named, wanted, wanted_at}
+use Rattle.conda_encode.specs.Clauses.{Reason, barred, barred_by, barred_entry, each_barred, needed, needed_by, off, on, pinned, pinned_at, some_named, wanted, wanted_at}
 use Rattle.conda_encode.specs.Matching.{bars, names}
 use Rattle.conda_encode.specs.Solution.{Pins, Wants}
 use Rattle.conda_encode.specs.Variables.{numbered, records, variables}
@@ -112,21 +112,21 @@ none_barred pools v hold x y a b spec d bar =
           let n : (n : ℕ) × In (n, spec) (numbered 0 x.1.constrains) = number_of 0 x.1.constrains spec d in
           let r : Reason = (Why.Constrains x.0 n.0, off x.0 ∷ off y.0 ∷ []) in
           let q : ℤ → Bool = λ l. not (int_eq l (off x.0)) in
-          let k : In r (barred_by pools x.0 (n.0, spec))
+          let k : In r (barred_entry pools x.0 (n.0, spec))
                 = in_map (λ (l : ℤ). (Why.Constrains x.0 n.0, off x.0 ∷ l ∷ [])) (filter q (each_barred pools spec)) (off y.0)
                   (in_filter q (each_barred pools spec) (off y.0) (in_barred pools spec y b.0 bar) (ap not other)) in
           let i : In r (barred pools)
-                = in_flat_map (λ (x : Numbered). flat_map (barred_by pools x.0) (numbered 0 x.1.constrains)) (variables pools) x r a.0
-                  (in_flat_map (barred_by pools x.0) (numbered 0 x.1.constrains) (n.0, spec) r n.1 k) in
+                = in_flat_map (barred_by pools) (variables pools) x r a.0
+                  (in_flat_map (barred_entry pools x.0) (numbered 0 x.1.constrains) (n.0, spec) r n.1 k) in
           absurd (off_true v y.0 (only_literal v (off y.0) (off_then v x.0 (off y.0 ∷ []) (hold r i) a.1)) b.1)
     ]
 
 pub barred_hold : (pools : List NamePool) (v : ℕ → Bool) → NoneBarred pools v → Hold v (barred pools)
 barred_hold pools v none r i =
-    let x : (x : Numbered) × In x (variables pools) × In r (flat_map (barred_by pools x.0) (numbered 0 x.1.constrains))
-          = of_flat_map (λ (x : Numbered). flat_map (barred_by pools x.0) (numbered 0 x.1.constrains)) (variables pools) r i in
-    let c : (c : ℕ × Parts) × In c (numbered 0 x.0.1.constrains) × In r (barred_by pools x.0.0 c)
-          = of_flat_map (barred_by pools x.0.0) (numbered 0 x.0.1.constrains) r x.2 in
+    let x : (x : Numbered) × In x (variables pools) × In r (barred_by pools x)
+          = of_flat_map (barred_by pools) (variables pools) r i in
+    let c : (c : ℕ × Parts) × In c (numbered 0 x.0.1.constrains) × In r (barred_entry pools x.0.0 c)
+          = of_flat_map (barred_entry pools x.0.0) (numbered 0 x.0.1.constrains) r x.2 in
     let q : ℤ → Bool = λ l. not (int_eq l (off x.0.0)) in
     let l : (l : ℤ) × In l (filter q (each_barred pools c.0.1)) × ((Why.Constrains x.0.0 c.0.0, off x.0.0 ∷ l ∷ []) ≡ r)
           = of_map (λ (l : ℤ). (Why.Constrains x.0.0 c.0.0, off x.0.0 ∷ l ∷ [])) (filter q (each_barred pools c.0.1)) r c.2 in

@@ -6,7 +6,7 @@ use Rattle.std.specs.List.{AllPairs, Contains, flat_map}
 use Rattle.conda_refute.specs.Literals.{clause_true, literal_true}
 use Rattle.conda_record.specs.declared.pkg_record.PkgRecord.{PkgRecord}
 use Rattle.conda_record.specs.declared.pool.NamePool.{NamePool}
-use Rattle.conda_encode.specs.Clauses.{Reason, off, on, one_of, one_step, ones}
+use Rattle.conda_encode.specs.Clauses.{Reason, off, on, one_at, one_of, one_step, ones}
 use Rattle.conda_encode.specs.Matching.{lowered}
 use Rattle.conda_encode.specs.Variables.{helpers_of, numbered, records}
 use Rattle.conda_encode.specs.declared.encoded.Why.{Why}
@@ -66,7 +66,7 @@ in_last : (b : Bool) (front middle behind : Reason) → In behind (front ∷ ((c
 in_last true front middle behind = inr (inr (inl refl))
 in_last false front middle behind = inr (inl refl)
 
-of_step : (r : Reason) (b : Bool) (front middle behind : Reason) → In r (front ∷ ((cond b (middle ∷ []) []) ++ behind ∷ [])) →
+pub of_step : (r : Reason) (b : Bool) (front middle behind : Reason) → In r (front ∷ ((cond b (middle ∷ []) []) ++ behind ∷ [])) →
     (front ≡ r) ⊎ (((b ≡ true) × (middle ≡ r)) ⊎ (behind ≡ r))
 of_step r b front middle behind (inl e) = inl e
 of_step r true front middle behind (inr (inl e)) = inr (inl (refl, e))
@@ -75,10 +75,6 @@ of_step r true front middle behind (inr (inr (inr i))) = absurd i
 of_step r false front middle behind (inr (inl e)) = inr (inr e)
 of_step r false front middle behind (inr (inr i)) = absurd i
 
--- the steps of a pool
-abbrev pub steps_at : List ℕ → ℕ → ℕ → ℕ → ℕ × PkgRecord → List Reason
-steps_at name n s k x = one_step name (n + x.0) (s + x.0) (nat_lt (x.0 + 2) k)
-
 in_pool : (name : List ℕ) (n s : ℕ) (recs : List PkgRecord) (i : ℕ) (r : Reason) → i + 1 < length recs →
     In r (one_step name (n + i) (s + i) (nat_lt (i + 2) (length recs))) → In r (one_of name n s recs)
 in_pool name n s recs i r lt h =
@@ -86,7 +82,7 @@ in_pool name n s recs i r lt h =
     let w : (x : PkgRecord) × In (0 + i, x) (numbered 0 (drop 1 recs)) = number_at 0 (drop 1 recs) i short in
     let e : 0 + i ≡ i = omega arith in
     let P : ℕ → Type 0 = λ j. In (j, w.0) (numbered 0 (drop 1 recs)) in
-    in_flat_map (steps_at name n s (length recs)) (numbered 0 (drop 1 recs)) (i, w.0) r (subst P e w.1) h
+    in_flat_map (one_at name n s (length recs)) (numbered 0 (drop 1 recs)) (i, w.0) r (subst P e w.1) h
 
 pub chain_from : (v : ℕ → Bool) (name : List ℕ) (n s : ℕ) (recs : List PkgRecord) → Hold v (one_of name n s recs) → Chain v n s (length recs)
 chain_from v name n s recs hold = record {
@@ -105,8 +101,8 @@ chain_from v name n s recs hold = record {
 
 pub chain_hold : (v : ℕ → Bool) (name : List ℕ) (n s : ℕ) (recs : List PkgRecord) → 1 ≤ n → 1 ≤ s → Chain v n s (length recs) → Hold v (one_of name n s recs)
 chain_hold v name n s recs low high chain r i =
-    let w : (x : ℕ × PkgRecord) × In x (numbered 0 (drop 1 recs)) × In r (steps_at name n s (length recs) x)
-          = of_flat_map (steps_at name n s (length recs)) (numbered 0 (drop 1 recs)) r i in
+    let w : (x : ℕ × PkgRecord) × In x (numbered 0 (drop 1 recs)) × In r (one_at name n s (length recs) x)
+          = of_flat_map (one_at name n s (length recs)) (numbered 0 (drop 1 recs)) r i in
     let j : ℕ = w.0.0 in
     let end : w.0.0 < 0 + length (drop 1 recs) = number_high 0 (drop 1 recs) w.0 w.1 in
     let lt : w.0.0 + 1 < length recs = omega (arith, length-drop 1 recs) in

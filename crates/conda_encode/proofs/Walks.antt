@@ -1,5 +1,5 @@
 -- Steps of loops that write clauses one after another.
-use Rattle.std.proofs.Common.{◌≡◌, ℕ, zero, suc, ◌+◌, ◌-◌, ◌≤◌, ◌<◌, ℤ, pos, Bool, true, false, not, cond, List, [], ◌∷◌, ◌++◌, length, map, filter, take, drop, get_or, refl, sym, ap, ◌∙◌, subst, ◌⊎◌, inl, inr, arith, append_assoc, int_eq, true≢false}
+use Rattle.std.proofs.Common.{◌≡◌, ℕ, zero, suc, ◌+◌, ◌-◌, ◌≤◌, ◌<◌, ℤ, pos, Bool, true, false, not, cond, ◌||◌, List, [], ◌∷◌, ◌++◌, length, map, filter, take, drop, get_or, refl, sym, ap, ◌∙◌, subst, ◌⊎◌, inl, inr, arith, append_assoc, int_eq, true≢false}
 use Rattle.std.proofs.lemmas.List.{drop_all, drop_more, get_or-map, length-take-le, map-append, take_all, take_more}
 use Rattle.std.proofs.lemmas.List.Elements.{filter-append}
 use Rattle.std.proofs.lemmas.Grind.{flat_map-append}
@@ -80,8 +80,8 @@ pub filter_all : {A B : Type 0} (p : A → Bool) (f : A → B) (xs : List A) (i 
     after ≡ start ++ map f (filter p (take i xs)) → after ≡ start ++ map f (filter p xs)
 filter_all p f xs i start after le was = was ∙ ap (λ zs. start ++ map f (filter p zs)) (take_all i xs le)
 
-or_none : (a b : Bool) → a ≡ false → (b ≡ false) → cond a true b ≡ false
-or_none a b e f = ap (λ c. cond c true b) e ∙ f
+or_none : (a b : Bool) → a ≡ false → b ≡ false → (a || b) ≡ false
+or_none a b e f = ap (λ c. c || b) e ∙ f
 
 -- no element passes
 pub any_none : {A : Type 0} (p : A → Bool) (xs : List A) → ((x : A) → In x xs → p x ≡ true → ⊥) → list_any p xs ≡ false
@@ -91,3 +91,11 @@ any_none p (x ∷ xs) none =
       | inl e ↦ absurd (none x (inl refl) e)
       | inr e ↦ or_none (p x) (list_any p xs) e (any_none p xs (λ y i. none y (inr i)))
     ]
+
+-- one more element, if it passes
+pub filter_step : {A B : Type 0} (p : A → Bool) (f : A → B) (xs : List A) (i : ℕ) (x : A) (start before after : List B) → i < length xs → get_or xs i x ≡ x →
+    before ≡ start ++ map f (filter p (take i xs)) → after ≡ before ++ map f (filter p (x ∷ [])) → after ≡ start ++ map f (filter p (take (i + 1) xs))
+filter_step p f xs i x start before after lt at was now =
+    let step : map f (filter p (take (i + 1) xs)) ≡ map f (filter p (take i xs)) ++ map f (filter p (x ∷ []))
+             = ap (map f) (take_filter p xs i x lt at) ∙ map-append f (filter p (take i xs)) (filter p (x ∷ [])) in
+    now ∙ ap (λ zs. zs ++ map f (filter p (x ∷ []))) was ∙ append_assoc start (map f (filter p (take i xs))) (map f (filter p (x ∷ []))) ∙ ap (λ zs. start ++ zs) (sym step)

@@ -38,26 +38,40 @@ abbrev pub wanted_at : List NamePool → AskKind → Parts → ℕ → List Reas
 wanted_at pools Wanted spec place = (Why.Asked place, some_named pools spec) ∷ []
 wanted_at pools Pinned spec place = []
 
+abbrev pub wanted_item : List NamePool → ℕ × Asked → List Reason
+wanted_item pools i = wanted_at pools i.1.kind i.1.spec i.0
+
 abbrev pub wanted : List NamePool → List Asked → List Reason
-wanted pools items = flat_map (λ i. wanted_at pools i.1.kind i.1.spec i.0) (numbered 0 items)
+wanted pools items = flat_map (wanted_item pools) (numbered 0 items)
 
 -- ---- what is needed, a clause for each dependency of a record
 
+abbrev pub needed_entry : List NamePool → ℕ → ℕ × Parts → Reason
+needed_entry pools n d = (Why.Needs n d.0, off n ∷ some_named pools d.1)
+
 abbrev pub needed_by : List NamePool → ℕ × PkgRecord → List Reason
-needed_by pools x =
-    map (λ d. (Why.Needs x.0 d.0, off x.0 ∷ some_named pools d.1)) (numbered 0 x.1.depends)
+needed_by pools x = map (needed_entry pools x.0) (numbered 0 x.1.depends)
 
 abbrev pub needed : List NamePool → List Reason
 needed pools = flat_map (needed_by pools) (variables pools)
 
 -- ---- what is barred, a clause for each entry of a record and each other record that it bars
 
-abbrev pub barred_by : List NamePool → ℕ → ℕ × Parts → List Reason
-barred_by pools n c =
-    map (λ l. (Why.Constrains n c.0, off n ∷ l ∷ [])) (filter (λ l. not (int_eq l (off n))) (each_barred pools c.1))
+-- the literal is another record's
+abbrev pub is_other : ℕ → ℤ → Bool
+is_other n l = not (int_eq l (off n))
+
+abbrev pub barred_pair : ℕ → ℕ → ℤ → Reason
+barred_pair n place l = (Why.Constrains n place, off n ∷ l ∷ [])
+
+abbrev pub barred_entry : List NamePool → ℕ → ℕ × Parts → List Reason
+barred_entry pools n c = map (barred_pair n c.0) (filter (is_other n) (each_barred pools c.1))
+
+abbrev pub barred_by : List NamePool → ℕ × PkgRecord → List Reason
+barred_by pools x = flat_map (barred_entry pools x.0) (numbered 0 x.1.constrains)
 
 abbrev pub barred : List NamePool → List Reason
-barred pools = flat_map (λ x. flat_map (barred_by pools x.0) (numbered 0 x.1.constrains)) (variables pools)
+barred pools = flat_map (barred_by pools) (variables pools)
 
 -- ---- at most one record of a name
 
@@ -69,10 +83,12 @@ one_step name n s more =
     ((if more then (Why.One name, off s ∷ on (s + 1) ∷ []) ∷ [] else []) ++
     (Why.One name, off (n + 1) ∷ off s ∷ []) ∷ [])
 
--- the same for each record that has a next one, where n and s are those of the first
+-- the same where n and s are those of the first of k records, and x is the place before a next one
+abbrev pub one_at : List ℕ → ℕ → ℕ → ℕ → ℕ × PkgRecord → List Reason
+one_at name n s k x = one_step name (n + x.0) (s + x.0) (nat_lt (x.0 + 2) k)
+
 abbrev pub one_of : List ℕ → ℕ → ℕ → List PkgRecord → List Reason
-one_of name n s recs =
-    flat_map (λ x. one_step name (n + x.0) (s + x.0) (nat_lt (x.0 + 2) (length recs))) (numbered 0 (drop 1 recs))
+one_of name n s recs = flat_map (one_at name n s (length recs)) (numbered 0 (drop 1 recs))
 
 -- of each pool, where n and s are the first variable and the first helper that are left
 abbrev pub ones : ℕ → ℕ → List NamePool → List Reason
@@ -81,12 +97,18 @@ ones n s (pool ∷ rest) = one_of pool.name n s pool.recs ++ ones (n + length po
 
 -- ---- what is pinned, a clause for each pinned item and each record that it bars
 
+abbrev pub pinned_literal : ℕ → ℤ → Reason
+pinned_literal place l = (Why.Pinned place, l ∷ [])
+
 abbrev pub pinned_at : List NamePool → AskKind → Parts → ℕ → List Reason
 pinned_at pools Wanted spec place = []
-pinned_at pools Pinned spec place = map (λ l. (Why.Pinned place, l ∷ [])) (each_barred pools spec)
+pinned_at pools Pinned spec place = map (pinned_literal place) (each_barred pools spec)
+
+abbrev pub pinned_item : List NamePool → ℕ × Asked → List Reason
+pinned_item pools i = pinned_at pools i.1.kind i.1.spec i.0
 
 abbrev pub pinned : List NamePool → List Asked → List Reason
-pinned pools items = flat_map (λ i. pinned_at pools i.1.kind i.1.spec i.0) (numbered 0 items)
+pinned pools items = flat_map (pinned_item pools) (numbered 0 items)
 
 -- ---- the whole
 

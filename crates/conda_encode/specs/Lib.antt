@@ -3,4 +3,5 @@ pub mod Variables
 pub mod Solution
 pub mod Clauses
 pub mod Models
+pub mod Sides
 pub mod Known

@@ -2,20 +2,21 @@
 #![tactic(auto)]
 
 mod asked;
-// mod encode;
+mod clauses;
 mod encoded;
+mod encoding;
 mod error;
+mod flat;
 mod known;
 mod laws;
-// mod reach;
 mod matching;
+mod once;
+mod write;
 mod written;
-pub mod flat;
 
 pub use asked::{AskKind, Asked};
-// pub use encode::encode;
 pub use encoded::{Encoded, Why};
+pub use encoding::encode;
 pub use error::EncodeErr;
 pub use laws::encode_laws;
 pub use matching::names_record;
-// pub use reach::set_of;
