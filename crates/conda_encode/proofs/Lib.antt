@@ -1,0 +1,17 @@
+pub mod Members
+pub mod Sides
+pub mod Cuts
+pub mod Literals
+pub mod Meaning
+pub mod Ones
+pub mod Requests
+pub mod Zips
+pub mod Kept
+pub mod Places
+pub mod Starts
+pub mod Splits
+pub mod Walks
+pub mod Nonzero
+pub mod Lent
+pub mod Bounds
+pub mod Within

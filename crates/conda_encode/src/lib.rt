@@ -1,0 +1,22 @@
+//! Requests as clauses: which packages of the pools can be chosen together, written for a solver.
+#![tactic(auto)]
+
+mod asked;
+mod clauses;
+mod encoded;
+mod encoding;
+mod error;
+mod flat;
+mod known;
+mod laws;
+mod matching;
+mod once;
+mod write;
+mod written;
+
+pub use asked::{AskKind, Asked};
+pub use encoded::{Encoded, Why};
+pub use encoding::encode;
+pub use error::EncodeErr;
+pub use laws::encode_laws;
+pub use matching::names_record;
