@@ -45,6 +45,9 @@ struct Spare {
 /// After how many conflicts the search keeps more learned clauses for the first time; each further time it takes half as many conflicts more.
 const FIRST_GROWTH: u64 = 100;
 
+/// How many learned clauses that may be dropped are kept at least.
+const LEAST: usize = 2000;
+
 /// A search that learns: a trail of literals, of which each was decided or follows from a clause by those before it.
 #[derive(Drop)]
 pub struct Search {
@@ -85,7 +88,7 @@ impl Search {
             analysis: Analysis::new(alloc, vars)?,
             steps: Steps::new(alloc, clauses),
             spares: Vec::new(alloc),
-            limit: (clauses as usize / 3).max(1000),
+            limit: (clauses as usize / 3).max(LEAST),
             left: FIRST_GROWTH,
             span: FIRST_GROWTH,
             fixed: 0,
@@ -212,8 +215,7 @@ impl Search {
             let Some(literal) = self.assignment.pop_above(start) else {
                 break;
             };
-            self.order
-                .reopen(short(variable_of(literal)), literal > 0)?;
+            self.order.reopen(short(variable_of(literal)), literal > 0)?;
         }
         Ok(())
     }
@@ -294,12 +296,9 @@ impl Search {
     /// Learns from a conflict above level 0, and goes back.
     fn learn(&mut self, conflict: u32) -> Result<(), AllocError> {
         self.order.remember(self.assignment.below_last());
-        let levels = self.analysis.learn(
-            &self.assignment,
-            &self.watches,
-            &mut self.order,
-            conflict,
-        )?;
+        let levels = self
+            .analysis
+            .learn(&self.assignment, &self.watches, &mut self.order, conflict)?;
         self.order.grow();
         let level = self.analysis.place_second(&self.assignment);
         let number = self.take_up()?;
@@ -551,11 +550,7 @@ fn other_watched(clause: &mut [i32], literal: i32) -> i32 {
 
 /// Puts a literal that isn't false at the second place, where one stands behind it: the first from a place on, or else from the third place on.
 /// Answers its place and it.
-fn watch_another(
-    assignment: &Assignment,
-    clause: &mut [i32],
-    from: usize,
-) -> Option<(usize, i32)> {
+fn watch_another(assignment: &Assignment, clause: &mut [i32], from: usize) -> Option<(usize, i32)> {
     let place = match open_place(assignment, clause, from, clause.len()) {
         Some(place) => place,
         None => open_place(assignment, clause, 2, from)?,

@@ -39,12 +39,7 @@ fn is_over(ledger: &Ledger) -> bool
 }
 
 /// The sides, if they make every clause and every assumed literal true.
-fn model_of(
-    sides: Vec<bool>,
-    vars: u32,
-    clauses: &[Clause],
-    assumed: &[i32],
-) -> Option<Verdict>
+fn model_of(sides: Vec<bool>, vars: u32, clauses: &[Clause], assumed: &[i32]) -> Option<Verdict>
     ensures right { IfSome result (IsVerdict vars clauses.now assumed.now) }
     ensures model { result ≢ Some Verdict.Denied }
 {

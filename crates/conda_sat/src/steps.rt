@@ -46,9 +46,7 @@ impl Steps {
         })?;
         self.numbers.push(0)?;
         self.wanted.push(false)?;
-        Ok(self
-            .before
-            .saturating_add(short(self.ends.len())))
+        Ok(self.before.saturating_add(short(self.ends.len())))
     }
 
     fn end(&self, at: usize) -> End {
@@ -64,7 +62,10 @@ impl Steps {
 
     /// The clause of the step at a place.
     pub fn clause(&self, at: usize) -> &[i32] {
-        let (start, end) = (self.end(at).literals, self.end(at.saturating_add(1)).literals);
+        let (start, end) = (
+            self.end(at).literals,
+            self.end(at.saturating_add(1)).literals,
+        );
         self.literals.get(start..end).unwrap_or(&[])
     }
 
