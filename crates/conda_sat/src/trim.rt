@@ -11,33 +11,11 @@ pub fn trimmed(alloc: Global, log: &Log) -> Result<Log, AllocError>
     ensures refuted { IfOk result (λ made. refuted made ≡ true) }
     ensures inputs { IfOk result (λ made. All (Contains log.now.inputs) made.inputs) }
 {
-    let flags = needed(alloc, log.inputs.as_slice().len(), log.steps.as_slice())?;
-    if all_are_set(flags.as_slice()) {
-        return whole(log);
-    }
-    let made = kept(alloc, flags.as_slice(), log)?;
+    let made = kept(alloc, log)?;
     match check(alloc, &made) {
         Ok(()) => Ok(made),
-        Err(_) => whole(log),
+        Err(_) => log.copy(),
     }
-}
-
-/// The same log.
-fn whole(log: &Log) -> Result<Log, AllocError>
-    requires { refuted log.now ≡ true }
-    ensures refuted { IfOk result (λ made. refuted made ≡ true) }
-    ensures inputs { IfOk result (λ made. All (Contains log.now.inputs) made.inputs) }
-{
-    log.copy()
-}
-
-fn all_are_set(flags: &[bool]) -> bool {
-    for flag in flags {
-        if !*flag {
-            return false;
-        }
-    }
-    true
 }
 
 /// For each clause, inputs first and then steps, whether the last step needs it.
@@ -129,14 +107,14 @@ fn renumbered(alloc: Global, numbers: &[u64], hints: &[u64]) -> Result<Rows<u64>
     Ok(Rows::from_vec(made))
 }
 
-/// The inputs and steps that are needed.
-fn kept(alloc: Global, flags: &[bool], log: &Log) -> Result<Log, AllocError>
+fn kept(alloc: Global, log: &Log) -> Result<Log, AllocError>
     ensures { IfOk result (λ made. All (Contains log.now.inputs) made.inputs) }
 {
     let inputs = log.inputs.as_slice();
     let steps = log.steps.as_slice();
-    let kept_inputs = kept_inputs(alloc, flags, inputs)?;
-    let kept_steps = kept_steps(alloc, flags, inputs.len(), steps)?;
+    let flags = needed(alloc, inputs.len(), steps)?;
+    let kept_inputs = kept_inputs(alloc, flags.as_slice(), inputs)?;
+    let kept_steps = kept_steps(alloc, flags.as_slice(), inputs.len(), steps)?;
     Ok(Log {
         inputs: kept_inputs,
         steps: kept_steps,
