@@ -1,7 +1,8 @@
 #!/bin/sh
 # Times `solve`, 100 questions to one `Solver`, and `check` of the refutation, beside minisat and cadical where they are installed: chains of
-# implications of 1,000 to 100,000 variables, ladders of at-most-one of 1,000 and 10,000, pigeonholes, and random clauses of three literals.
-# Each program reads the same text; the times are of whole runs but for those of the questions and of the check.
+# implications of 1,000 to 100,000 variables, ladders of at-most-one of as many, pigeonholes, and random clauses of three literals.
+# Each program reads the same text; the times are of whole runs but for those of `solve`, the questions and the check.
+# `sh bench/sat.sh FILE..` times these DIMACS files in place of its own.
 set -eu
 . "$(dirname "$0")/program.sh"
 mkdir -p "$work/crates/sat_bench/proofs/questions"
@@ -135,7 +136,7 @@ took() {
 
 row() {
     name=$1
-    cat > "$work/plain"
+    grep -v '^[pc]' > "$work/plain"
     awk '{ for (i = 1; i < NF; i++) { v = $i < 0 ? -$i : $i; if (v > m) m = v } } END { print "p cnf", m, NR }' "$work/plain" > "$work/$name.cnf"
     cat "$work/plain" >> "$work/$name.cnf"
     own=$(took "$program" < "$work/$name.cnf")
@@ -147,9 +148,13 @@ row() {
     echo "$name: $said; in all $own ms$others"
 }
 
+if [ $# -gt 0 ]; then
+    for file in "$@"; do row "$(basename "$file" .cnf)" < "$file"; done
+    exit
+fi
 for n in 1000 10000 100000; do
     chain $n | row chain$n
-    if [ $n -le 10000 ]; then ladder $n | row ladder$n; fi
+    ladder $n | row ladder$n
 done
 for h in 6 7 8; do pigeons $h | row pigeons$h; done
 for n in 100 150 200; do

@@ -1,35 +1,41 @@
 use crate::assignment::{Assignment, opposite_of, short, variable_of};
-use crate::queue::Queue;
+use crate::order::Order;
 use crate::watches::Watches;
 use std::alloc::{AllocError, Global};
-
-/// A clause that follows, by the clauses with these numbers in this order.
-#[derive(Drop)]
-pub struct Learned {
-    pub clause: Vec<i32>,
-    pub hints: Vec<u64>,
-    /// The level to go back to.
-    pub level: u32,
-    /// How many levels the literals were of, or 0 where the clause is kept in any case.
-    pub levels: u32,
-}
 
 /// A clause that was used, and where its literal stands in the trail.
 #[derive(Clone, Copy, Debug, PartialEq, Eq, PartialOrd, Ord)]
 struct Used {
     at: u32,
-    clause: u32,
+    number: u32,
 }
 
-/// What the search for a learned clause has met.
+/// How much of what was met there was at a moment.
+#[derive(Clone, Copy, Debug)]
+struct Mark {
+    met: usize,
+    below: usize,
+    units: usize,
+}
+
+/// What the search for a learned clause has met, and what came of it.
 #[derive(Drop)]
 pub struct Analysis {
+    /// The last clause that followed, the numbers of the clauses from which it does, in this order, and the clauses among them that were
+    /// learned from a conflict.
+    clause: Vec<i32>,
+    hints: Vec<u32>,
+    reasons: Vec<u32>,
     seen: Vec<bool>,
     met: Vec<i32>,
-    used: Vec<Used>,
+    /// The clauses that were used at the level of the conflict, from the trail's end on.
+    used: Vec<u32>,
+    /// Those below it.
+    below: Vec<Used>,
+    left: Vec<i32>,
     /// For each variable that is known for good, the number of a clause of its literal alone.
     units: Vec<u32>,
-    unit_hints: Vec<u64>,
+    unit_hints: Vec<u32>,
     /// For each level the last count that met it, and the number of counts.
     counted: Vec<u64>,
     counts: u64,
@@ -39,14 +45,34 @@ impl Analysis {
     pub fn new(alloc: Global, vars: u32) -> Result<Analysis, AllocError> {
         let size = vars as usize + 1;
         Ok(Analysis {
+            clause: Vec::new(alloc),
+            hints: Vec::new(alloc),
+            reasons: Vec::new(alloc),
             seen: vec![in alloc; false; size]?,
             met: Vec::new(alloc),
             used: Vec::new(alloc),
+            below: Vec::new(alloc),
+            left: Vec::new(alloc),
             units: vec![in alloc; 0; size]?,
             unit_hints: Vec::new(alloc),
             counted: vec![in alloc; 0; size]?,
             counts: 0,
         })
+    }
+
+    /// The clause that followed last.
+    pub fn clause(&self) -> &[i32] {
+        self.clause.as_slice()
+    }
+
+    /// The numbers of the clauses from which it follows.
+    pub fn hints(&self) -> &[u32] {
+        self.hints.as_slice()
+    }
+
+    /// The clauses that were used for it but for those that shortened it.
+    pub fn reasons(&self) -> &[u32] {
+        self.reasons.as_slice()
     }
 
     fn is_seen(&self, literal: i32) -> bool {
@@ -64,7 +90,7 @@ impl Analysis {
         Ok(())
     }
 
-    /// The number of the clause that has this literal alone, where there is one.
+    /// The number of the clause that has this literal alone, or 0 where there is none.
     pub fn unit_of(&self, literal: i32) -> u32 {
         match self.units.get(variable_of(literal)) {
             Some(unit) => *unit,
@@ -72,10 +98,16 @@ impl Analysis {
         }
     }
 
-    pub fn set_unit(&mut self, literal: i32, clause: u32) {
+    pub fn set_unit(&mut self, literal: i32, number: u32) {
         if let Some(unit) = self.units.get_mut(variable_of(literal)) {
-            *unit = clause;
+            *unit = number;
         }
+    }
+
+    fn begin(&mut self) {
+        self.clause.clear();
+        self.hints.clear();
+        self.reasons.clear();
     }
 
     fn forget(&mut self) {
@@ -86,6 +118,7 @@ impl Analysis {
         }
         self.met.clear();
         self.used.clear();
+        self.below.clear();
         self.unit_hints.clear();
     }
 
@@ -96,82 +129,73 @@ impl Analysis {
         }
         self.see(literal)?;
         if assignment.known(literal).level == 0 {
-            let unit = u64::from(self.unit_of(literal));
+            let unit = self.unit_of(literal);
             self.unit_hints.push(unit)?;
             return Ok(false);
         }
         Ok(true)
     }
 
-    /// The hints in their order: units, then the used clauses as their literals stand in the trail.
-    fn hints(&mut self, alloc: Global, last: Option<u32>) -> Result<Vec<u64>, AllocError> {
-        self.used.sort_unstable();
-        let mut hints = Vec::with_capacity(alloc, self.unit_hints.len() + self.used.len())?;
-        hints.extend_from_slice(self.unit_hints.as_slice())?;
-        for used in self.used.iter() {
-            hints.push(u64::from(used.clause))?;
+    /// Writes the hints in their order: units, then the used clauses as their literals stand in the trail.
+    fn write_hints(&mut self, last: Option<u32>) -> Result<(), AllocError> {
+        self.hints.extend_from_slice(self.unit_hints.as_slice())?;
+        self.below.sort_unstable();
+        for used in self.below.iter() {
+            self.hints.push(used.number)?;
+        }
+        for number in self.used.iter().rev() {
+            self.hints.push(*number)?;
         }
         if let Some(last) = last {
-            hints.push(u64::from(last))?;
+            self.hints.push(last)?;
         }
-        Ok(hints)
+        Ok(())
     }
 
-    /// The clause that a conflict above level 0 teaches.
+    /// Finds the clause that a conflict above level 0 teaches. Answers how many levels its literals are of.
     pub fn learn(
         &mut self,
-        alloc: Global,
         assignment: &Assignment,
         watches: &Watches,
-        queue: &mut Queue,
+        order: &mut Order,
         conflict: u32,
-    ) -> Result<Learned, AllocError> {
+    ) -> Result<u32, AllocError> {
+        self.begin();
         // the first place is for the literal of the first crossing point
-        let mut clause = vec![in alloc; 0]?;
+        self.clause.push(0)?;
         let level = assignment.level();
-        let mut open = self.meet_all(assignment, watches, conflict, 0, level, &mut clause)?;
+        self.reasons.push(conflict)?;
+        let mut open = self.meet_all(assignment, watches, order, conflict, level)?;
         for literal in assignment.trail().iter().rev() {
-            let known = assignment.known(*literal);
-            if !self.is_seen(*literal) || known.level != level {
+            if !self.is_seen(*literal) {
                 continue;
             }
-            let reason = match known.reason {
+            let reason = match assignment.known(*literal).reason {
                 Some(reason) if open > 1 => reason,
                 _ => {
-                    if let Some(first) = clause.get_mut(0) {
+                    if let Some(first) = self.clause.get_mut(0) {
                         *first = opposite_of(*literal);
                     }
                     break;
                 }
             };
-            self.used.push(Used {
-                at: known.at,
-                clause: reason,
-            })?;
-            let more = self.meet_all(assignment, watches, reason, *literal, level, &mut clause)?;
+            self.used.push(watches.number(reason))?;
+            self.reasons.push(reason)?;
+            let more = self.meet_all(assignment, watches, order, reason, level)?;
             open = open.saturating_sub(1).saturating_add(more);
         }
-        self.shorten(alloc, assignment, watches, &mut clause)?;
-        let back = place_second(assignment, clause.as_mut_slice());
-        let hints = self.hints(alloc, Some(conflict))?;
-        for literal in self.met.iter() {
-            queue.bump(short(variable_of(*literal)), false);
-        }
+        let levels = self.count_levels(assignment);
+        self.shorten(assignment, watches)?;
+        self.write_hints(Some(watches.number(conflict)))?;
         self.forget();
-        let levels = self.levels(assignment, clause.as_slice());
-        Ok(Learned {
-            clause,
-            hints,
-            level: back,
-            levels,
-        })
+        Ok(levels)
     }
 
-    /// How many levels these literals are of.
-    fn levels(&mut self, assignment: &Assignment, clause: &[i32]) -> u32 {
+    /// Counts the levels that the literals are of.
+    fn count_levels(&mut self, assignment: &Assignment) -> u32 {
         self.counts = self.counts.wrapping_add(1);
         let mut levels = 0_u32;
-        for literal in clause {
+        for literal in self.clause.iter() {
             let level = assignment.known(*literal).level as usize;
             if let Some(counted) = self.counted.get_mut(level) {
                 if *counted != self.counts {
@@ -183,165 +207,191 @@ impl Analysis {
         levels
     }
 
-    /// Meets the literals of a clause but for one. Those below the level go into the clause; answers how many new ones are at it.
+    fn is_counted(&self, level: u32) -> bool {
+        match self.counted.get(level as usize) {
+            Some(counted) => *counted == self.counts,
+            None => false,
+        }
+    }
+
+    /// Meets the literals of a clause. Those below the level go into the learned one; answers how many new ones are at it.
     fn meet_all(
         &mut self,
         assignment: &Assignment,
         watches: &Watches,
-        number: u32,
-        but: i32,
+        order: &mut Order,
+        clause: u32,
         level: u32,
-        clause: &mut Vec<i32>,
     ) -> Result<u32, AllocError> {
         let mut open = 0_u32;
-        for literal in watches.clause(number) {
-            if *literal == but || !self.meet(assignment, *literal)? {
+        for literal in watches.clause(clause) {
+            if !self.meet(assignment, *literal)? {
                 continue;
             }
+            order.bump(short(variable_of(*literal)));
             if assignment.known(*literal).level == level {
                 open = open.saturating_add(1);
             } else {
-                clause.push(*literal)?;
+                self.clause.push(*literal)?;
             }
         }
         Ok(open)
     }
 
-    /// Drops the literals that follow from the others by one clause.
-    fn shorten(
-        &mut self,
-        alloc: Global,
-        assignment: &Assignment,
-        watches: &Watches,
-        clause: &mut Vec<i32>,
-    ) -> Result<(), AllocError> {
-        let mut kept = Vec::with_capacity(alloc, clause.len())?;
-        for (at, literal) in clause.iter().enumerate() {
-            match assignment.known(*literal).reason {
-                Some(reason) if at > 0 && self.covers(assignment, watches, reason, *literal) => {
-                    self.used.push(Used {
-                        at: assignment.known(*literal).at,
-                        clause: reason,
-                    })?;
-                    self.cite_units(assignment, watches, reason)?;
+    /// Drops the literals that follow from the others.
+    fn shorten(&mut self, assignment: &Assignment, watches: &Watches) -> Result<(), AllocError> {
+        let mut kept = 1_usize;
+        for at in 1..self.clause.len() {
+            let Some(literal) = self.clause.get(at).copied() else {
+                break;
+            };
+            if !self.is_implied(assignment, watches, literal)? {
+                if let Some(place) = self.clause.get_mut(kept) {
+                    *place = literal;
                 }
-                _ => kept.push(*literal)?,
+                kept = kept.saturating_add(1);
             }
         }
-        *clause = kept;
+        self.clause.truncate(kept);
         Ok(())
     }
 
-    /// Whether each literal of the clause but this one was met above level 0 below the level of the conflict, or is known for good.
-    fn covers(&self, assignment: &Assignment, watches: &Watches, number: u32, but: i32) -> bool {
-        let level = assignment.level();
-        for literal in watches.clause(number) {
-            let known = assignment.known(*literal);
-            if *literal == opposite_of(but) || known.level == 0 {
-                continue;
-            }
-            if !self.is_seen(*literal) || known.level == level {
-                return false;
-            }
-        }
-        true
-    }
-
-    fn cite_units(
+    /// Whether a literal of the clause follows from the others and from what is known for good. Then the clauses by which it does are used.
+    fn is_implied(
         &mut self,
-        assignment: &Assignment,
-        watches: &Watches,
-        number: u32,
-    ) -> Result<(), AllocError> {
-        for literal in watches.clause(number) {
-            if assignment.known(*literal).level == 0 {
-                self.meet(assignment, *literal)?;
-            }
-        }
-        Ok(())
-    }
-
-    /// A clause of the opposites of decided literals alone, which a false literal gives where it was decided to be true: its own opposite stands first.
-    pub fn deny(
-        &mut self,
-        alloc: Global,
         assignment: &Assignment,
         watches: &Watches,
         literal: i32,
-    ) -> Result<Learned, AllocError> {
-        let opposite = opposite_of(literal);
-        let mut clause = vec![in alloc; opposite]?;
+    ) -> Result<bool, AllocError> {
+        if assignment.known(literal).reason.is_none() {
+            return Ok(false);
+        }
+        let mark = Mark {
+            met: self.met.len(),
+            below: self.below.len(),
+            units: self.unit_hints.len(),
+        };
+        self.left.clear();
+        self.left.push(literal)?;
+        for _ in 0..u64::MAX {
+            let Some(next) = self.left.pop() else {
+                break;
+            };
+            if !self.goes_back(assignment, watches, next)? {
+                self.take_back(mark);
+                return Ok(false);
+            }
+        }
+        Ok(true)
+    }
+
+    /// Whether the literals that gave a literal were met, or may follow from such: then these are left to be looked at.
+    fn goes_back(
+        &mut self,
+        assignment: &Assignment,
+        watches: &Watches,
+        literal: i32,
+    ) -> Result<bool, AllocError> {
+        let known = assignment.known(literal);
+        let Some(reason) = known.reason else {
+            return Ok(false);
+        };
+        self.below.push(Used {
+            at: known.at,
+            number: watches.number(reason),
+        })?;
+        for other in watches.clause(reason) {
+            if self.is_seen(*other) {
+                continue;
+            }
+            let known = assignment.known(*other);
+            if known.level > 0 && (known.reason.is_none() || !self.is_counted(known.level)) {
+                return Ok(false);
+            }
+            if self.meet(assignment, *other)? {
+                self.left.push(*other)?;
+            }
+        }
+        Ok(true)
+    }
+
+    fn take_back(&mut self, mark: Mark) {
+        for literal in self.met.iter().skip(mark.met) {
+            if let Some(seen) = self.seen.get_mut(variable_of(*literal)) {
+                *seen = false;
+            }
+        }
+        self.met.truncate(mark.met);
+        self.below.truncate(mark.below);
+        self.unit_hints.truncate(mark.units);
+    }
+
+    /// Puts the literal of the highest level among all but the first at the second place, and answers that level.
+    pub fn place_second(&mut self, assignment: &Assignment) -> u32 {
+        let mut best = 0;
+        let mut level = 0;
+        for (at, literal) in self.clause.iter().enumerate() {
+            let own = assignment.known(*literal).level;
+            if at > 0 && (best == 0 || own > level) {
+                best = at;
+                level = own;
+            }
+        }
+        if best > 1 && best < self.clause.len() {
+            self.clause.swap(1, best);
+        }
+        level
+    }
+
+    /// Finds a clause of the opposites of decided literals alone, which a false literal gives where it was decided to be true: its own opposite
+    /// stands first.
+    pub fn deny(
+        &mut self,
+        assignment: &Assignment,
+        watches: &Watches,
+        literal: i32,
+    ) -> Result<(), AllocError> {
+        self.begin();
+        self.clause.push(opposite_of(literal))?;
         if self.meet(assignment, literal)? {
-            for trailed in assignment.trail().iter().rev() {
-                if !self.is_seen(*trailed) || assignment.known(*trailed).level == 0 {
+            for trailed in assignment.above_bottom().iter().rev() {
+                if !self.is_seen(*trailed) {
                     continue;
                 }
-                let known = assignment.known(*trailed);
-                match known.reason {
+                match assignment.known(*trailed).reason {
                     Some(reason) => {
-                        self.used.push(Used {
-                            at: known.at,
-                            clause: reason,
-                        })?;
+                        self.used.push(watches.number(reason))?;
                         for other in watches.clause(reason) {
                             self.meet(assignment, *other)?;
                         }
                     }
-                    None => clause.push(opposite_of(*trailed))?,
+                    None => self.clause.push(opposite_of(*trailed))?,
                 }
             }
         }
-        let hints = self.hints(alloc, None)?;
+        self.write_hints(None)?;
         self.forget();
-        Ok(Learned {
-            clause,
-            hints,
-            level: 0,
-            levels: 0,
-        })
+        Ok(())
     }
 
-    /// The unit clause of a literal that follows at level 0 from a clause, or the empty clause where it has no literal that isn't false.
+    /// Finds the unit clause of a literal that follows at level 0 from a clause, or the empty clause where it has no literal that isn't false.
     pub fn at_bottom(
         &mut self,
-        alloc: Global,
         assignment: &Assignment,
         watches: &Watches,
         reason: u32,
         literal: Option<i32>,
-    ) -> Result<Learned, AllocError> {
-        let mut clause = Vec::new(alloc);
+    ) -> Result<(), AllocError> {
+        self.begin();
         if let Some(literal) = literal {
-            clause.push(literal)?;
+            self.clause.push(literal)?;
             self.see(literal)?;
         }
         for other in watches.clause(reason) {
             self.meet(assignment, *other)?;
         }
-        let hints = self.hints(alloc, Some(reason))?;
+        self.write_hints(Some(watches.number(reason)))?;
         self.forget();
-        Ok(Learned {
-            clause,
-            hints,
-            level: 0,
-            levels: 0,
-        })
+        Ok(())
     }
-}
-
-/// Puts the literal of the highest level among all but the first at the second place, and answers that level.
-fn place_second(assignment: &Assignment, clause: &mut [i32]) -> u32 {
-    let mut best = 0;
-    let mut level = 0;
-    for (at, literal) in clause.iter().enumerate() {
-        let own = assignment.known(*literal).level;
-        if at > 0 && (best == 0 || own > level) {
-            best = at;
-            level = own;
-        }
-    }
-    if best > 1 && best < clause.len() {
-        clause.swap(1, best);
-    }
-    level
 }

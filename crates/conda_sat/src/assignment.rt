@@ -36,8 +36,15 @@ pub struct Known {
     pub level: u32,
     /// Where its literal stands in the trail.
     pub at: u32,
-    /// The number of the clause from which it follows; None where it was decided.
+    /// The clause from which it follows; None where it was decided, or is known for good.
     pub reason: Option<u32>,
+}
+
+/// Where a level begins.
+#[derive(Clone, Copy, Debug)]
+struct Start {
+    trail: usize,
+    order: usize,
 }
 
 /// Which literals are true, in the order in which they became so, and at which level.
@@ -46,8 +53,10 @@ pub struct Assignment {
     values: Vec<Value>,
     known: Vec<Known>,
     trail: Vec<i32>,
-    starts: Vec<usize>,
+    starts: Vec<Start>,
     head: usize,
+    /// The first literal of the order that the decisions so far didn't look at.
+    pub order: usize,
 }
 
 impl Assignment {
@@ -65,6 +74,7 @@ impl Assignment {
             trail: Vec::with_capacity(alloc, size)?,
             starts: Vec::new(alloc),
             head: 0,
+            order: 0,
         })
     }
 
@@ -96,9 +106,36 @@ impl Assignment {
         self.trail.as_slice()
     }
 
+    /// The part of the trail that is at level 0.
+    pub fn bottom(&self) -> &[i32] {
+        match self.starts.first() {
+            Some(start) => self.trail.get(..start.trail).unwrap_or(&[]),
+            None => self.trail.as_slice(),
+        }
+    }
+
+    /// The part of the trail that is below the last level.
+    pub fn below_last(&self) -> &[i32] {
+        match self.starts.last() {
+            Some(start) => self.trail.get(..start.trail).unwrap_or(&[]),
+            None => &[],
+        }
+    }
+
+    /// The part of the trail that is above level 0.
+    pub fn above_bottom(&self) -> &[i32] {
+        match self.starts.first() {
+            Some(start) => self.trail.get(start.trail..).unwrap_or(&[]),
+            None => &[],
+        }
+    }
+
     /// Begins a level.
     pub fn begin_level(&mut self) -> Result<(), AllocError> {
-        self.starts.push(self.trail.len())?;
+        self.starts.push(Start {
+            trail: self.trail.len(),
+            order: self.order,
+        })?;
         Ok(())
     }
 
@@ -130,14 +167,13 @@ impl Assignment {
         Some(literal)
     }
 
-    /// Takes back what became true above a level; `opened` is given each literal.
+    /// Takes back the levels above one, and answers where the literals above it begin in the trail.
     pub fn back_to(&mut self, level: u32) -> Option<usize> {
         let start = self.starts.get(level as usize).copied()?;
         self.starts.truncate(level as usize);
-        if self.head > start {
-            self.head = start;
-        }
-        Some(start)
+        self.head = self.head.min(start.trail);
+        self.order = start.order;
+        Some(start.trail)
     }
 
     /// Takes back the last literal, where the trail is longer than this.

@@ -45,6 +45,13 @@ impl Ledger {
         &self.log
     }
 
+    /// The number of the last clause or step.
+    pub fn len(&self) -> u64 {
+        let inputs = self.log.inputs.as_slice();
+        let steps = self.log.steps.as_slice();
+        inputs.len() as u64 + steps.len() as u64
+    }
+
     /// Takes up a step if it follows, and answers whether it does.
     pub fn add(&mut self, alloc: Global, step: Step) -> Result<bool, AllocError>
         ensures inputs { self.new.inputs ≡ self.old.inputs }

@@ -1,49 +1,60 @@
 ghost use Rattle.std.specs.Prelude.{◌≡◌};
 
-use crate::assignment::place_of;
+use crate::assignment::{opposite_of, place_of, short};
 use crate::ledger::Ledger;
 use crate::search::Search;
+use crate::steps::Steps;
 use conda_base::Rows;
 use conda_refute::{Clause, Step};
 use std::alloc::{AllocError, Global};
 
-/// Takes the clauses that the search learned into the ledger; answers whether each follows.
-pub fn take_learned(
+/// Takes the steps into the ledger that the last one of the search needs; answers whether each follows.
+pub fn take_needed(
     alloc: Global,
     ledger: &mut Ledger,
-    search: &mut Search,
+    steps: &mut Steps,
 ) -> Result<bool, AllocError>
     ensures { ledger.new.inputs ≡ ledger.old.inputs }
 {
-    for learned in search.take_learned() {
-        let hints = Rows::from_vec(learned.hints);
-        let Some(clause) = Clause::from_vec(learned.clause) else {
+    for at in steps.needed(alloc)? {
+        let Some(step) = step_at(alloc, steps, at)? else {
             return Ok(false);
         };
-        if !ledger.add(alloc, Step { clause, hints })? {
+        if !ledger.add(alloc, step)? {
             return Ok(false);
         }
+        steps.set_number(at, ledger.len());
     }
     Ok(true)
 }
 
+/// A step of the search as the ledger counts clauses.
+fn step_at(alloc: Global, steps: &Steps, at: usize) -> Result<Option<Step>, AllocError> {
+    let Some(clause) = Clause::from_vec(Vec::from_slice(alloc, steps.clause(at))?) else {
+        return Ok(None);
+    };
+    let mut hints = Vec::with_capacity(alloc, steps.hints(at).len())?;
+    for hint in steps.hints(at) {
+        hints.push(steps.number(*hint))?;
+    }
+    let hints = Rows::from_vec(hints);
+    Ok(Some(Step { clause, hints }))
+}
+
 /// A search over the clauses and steps of a ledger.
 pub fn loaded(alloc: Global, vars: u32, ledger: &Ledger) -> Result<Search, AllocError> {
-    let mut search = Search::new(alloc, vars)?;
     let log = ledger.log();
-    for clause in log.inputs.as_slice() {
-        let clause = clause.as_slice();
-        let is_watched = shape_of(alloc, clause)? == Shape::Plain;
-        search.push_clause(clause, is_watched)?;
+    let inputs = log.inputs.as_slice();
+    let steps = log.steps.as_slice();
+    let mut search = Search::new(alloc, vars, short(inputs.len().saturating_add(steps.len())))?;
+    let mut number = 0_u32;
+    for clause in inputs {
+        number = number.saturating_add(1);
+        search.add(clause.as_slice(), number)?;
     }
-    for step in log.steps.as_slice() {
-        search.push_clause(step.clause.as_slice(), true)?;
-    }
-    for number in 0..search.last_number() {
-        search.settle(number.saturating_add(1))?;
-        if search.is_over() {
-            break;
-        }
+    for step in steps {
+        number = number.saturating_add(1);
+        search.add(step.clause.as_slice(), number)?;
     }
     Ok(search)
 }
@@ -61,6 +72,9 @@ pub enum Shape {
 
 /// What stands in a clause.
 pub fn shape_of(alloc: Global, clause: &[i32]) -> Result<Shape, AllocError> {
+    if clause.len() <= 8 {
+        return Ok(short_shape(clause));
+    }
     let mut places = Vec::with_capacity(alloc, clause.len())?;
     for literal in clause {
         places.push(place_of(*literal))?;
@@ -77,4 +91,19 @@ pub fn shape_of(alloc: Global, clause: &[i32]) -> Result<Shape, AllocError> {
         before = *place;
     }
     Ok(shape)
+}
+
+/// The same by looking at each two.
+fn short_shape(clause: &[i32]) -> Shape {
+    let mut shape = Shape::Plain;
+    for (at, literal) in clause.iter().enumerate() {
+        for other in clause.iter().take(at) {
+            if *other == *literal {
+                shape = Shape::Repeats;
+            } else if *other == opposite_of(*literal) {
+                return Shape::Opposites;
+            }
+        }
+    }
+    shape
 }

@@ -7,7 +7,7 @@ use crate::cases::by_cases;
 use crate::denial::{denies, holds_opposites};
 use crate::error::SatErr;
 use crate::ledger::Ledger;
-use crate::load::{loaded, take_learned};
+use crate::load::{loaded, take_needed};
 use crate::model::{clauses_are_true, literals_are_true};
 use crate::search::{Outcome, Search};
 use crate::trim::trimmed;
@@ -38,24 +38,18 @@ fn is_over(ledger: &Ledger) -> bool
     last_step_denies(ledger, &[])
 }
 
-/// The sides that the search found, if they make every clause and every assumed literal true.
-fn model_of(
-    search: &Search,
-    vars: u32,
-    clauses: &[Clause],
-    assumed: &[i32],
-) -> Result<Option<Verdict>, AllocError>
-    ensures right { IfOk result (λ found. IfSome found (IsVerdict vars clauses.now assumed.now)) }
-    ensures model { result ≢ Ok (Some Verdict.Denied) }
+/// The sides, if they make every clause and every assumed literal true.
+fn model_of(sides: Vec<bool>, vars: u32, clauses: &[Clause], assumed: &[i32]) -> Option<Verdict>
+    ensures right { IfSome result (IsVerdict vars clauses.now assumed.now) }
+    ensures model { result ≢ Some Verdict.Denied }
 {
-    let sides = search.sides()?;
     if sides.len() == vars as usize
         && clauses_are_true(sides.as_slice(), clauses)
         && literals_are_true(sides.as_slice(), assumed)
     {
-        return Ok(Some(Verdict::Model(Rows::from_vec(sides))));
+        return Some(Verdict::Model(Rows::from_vec(sides)));
     }
-    Ok(None)
+    None
 }
 
 /// What the search found, if it is seen to be right.
@@ -70,14 +64,35 @@ fn seen(
     ensures ended { result ≡ Ok (Some Verdict.Denied) → assumed.now ≡ [] → ends_empty ledger.now.steps ≡ true }
 {
     match outcome {
-        Outcome::Model => model_of(search, vars, ledger.log().inputs.as_slice(), assumed),
+        Outcome::Model => {
+            let inputs = ledger.log().inputs.as_slice();
+            Ok(model_of(search.sides()?, vars, inputs, assumed))
+        }
         Outcome::Denied if last_step_denies(ledger, assumed) => Ok(Some(Verdict::Denied)),
         Outcome::Opposites if holds_opposites(assumed) => Ok(Some(Verdict::Denied)),
         _ => Ok(None),
     }
 }
 
-/// Searches until there is an answer or a learned clause doesn't follow.
+/// How many conflicts are allowed in turn, as hundreds: 1, 1, 2, 1, 1, 2, 4 and so on (Luby, Sinclair and Zuckerman 1993).
+#[derive(Clone, Copy, Debug)]
+struct Allowance {
+    turn: u64,
+    hundreds: u64,
+}
+
+impl Allowance {
+    fn next(&mut self) {
+        if self.turn & self.turn.wrapping_neg() == self.hundreds {
+            self.turn = self.turn.wrapping_add(1);
+            self.hundreds = 1;
+        } else {
+            self.hundreds = self.hundreds.wrapping_mul(2);
+        }
+    }
+}
+
+/// Searches until there is an answer; of a denial, the ledger takes the steps that it needs. `Restart`: one of them doesn't follow.
 fn searched(
     alloc: Global,
     ledger: &mut Ledger,
@@ -87,27 +102,76 @@ fn searched(
 ) -> Result<Outcome, AllocError>
     ensures { ledger.new.inputs ≡ ledger.old.inputs }
 {
+    let outcome = outcome_of(search, assumed, order)?;
+    if outcome == Outcome::Denied && !take_needed(alloc, ledger, search.steps())? {
+        return Ok(Outcome::Restart);
+    }
+    Ok(outcome)
+}
+
+/// Searches until there is an answer.
+fn outcome_of(search: &mut Search, assumed: &[i32], order: &[i32]) -> Result<Outcome, AllocError> {
     for literal in order {
         search.prefer(*literal);
     }
-    let mut allowed = 100_u64;
+    let mut allowance = Allowance {
+        turn: 1,
+        hundreds: 1,
+    };
     let mut first = order;
     for _turn in 0..u64::MAX {
-        let outcome = search.run(assumed, first, allowed)?;
-        if !take_learned(alloc, ledger, search)? {
-            return Ok(Outcome::Restart);
-        }
+        let outcome = search.run(assumed, first, allowance.hundreds.saturating_mul(100))?;
         if outcome != Outcome::Restart {
             return Ok(outcome);
         }
-        allowed = allowed.saturating_add(allowed / 2);
+        allowance.next();
         first = &[];
     }
     Ok(Outcome::Restart)
 }
 
-/// What the kept search finds, or one loaded anew where none is kept. The search is kept on where its answer was seen to be right.
+/// The last model of the search with a few changes, if it is seen to answer the question.
+fn by_last_model(
+    search: &mut Search,
+    vars: u32,
+    clauses: &[Clause],
+    assumed: &[i32],
+) -> Result<Option<Verdict>, AllocError>
+    ensures right { IfOk result (λ found. IfSome found (IsVerdict vars clauses.now assumed.now)) }
+    ensures model { result ≢ Ok (Some Verdict.Denied) }
+{
+    match search.mend(assumed)? {
+        Some(sides) => Ok(model_of(sides, vars, clauses, assumed)),
+        None => Ok(None),
+    }
+}
+
+/// What the search finds.
 fn by_search(
+    alloc: Global,
+    ledger: &mut Ledger,
+    search: &mut Search,
+    vars: u32,
+    assumed: &[i32],
+    order: &[i32],
+) -> Result<Option<Verdict>, AllocError>
+    ensures inputs { ledger.new.inputs ≡ ledger.old.inputs }
+    ensures right { IfOk result (λ found. IfSome found (IsVerdict vars ledger.old.inputs assumed.now)) }
+    ensures ended { result ≡ Ok (Some Verdict.Denied) → assumed.now ≡ [] → ends_empty ledger.new.steps ≡ true }
+{
+    if order.is_empty() {
+        let inputs = ledger.log().inputs.as_slice();
+        let found = by_last_model(search, vars, inputs, assumed)?;
+        if found.is_some() {
+            return Ok(found);
+        }
+    }
+    let outcome = searched(alloc, ledger, search, assumed, order)?;
+    seen(search, outcome, vars, ledger, assumed)
+}
+
+/// What the kept search finds, or one loaded anew where none is kept. The search is kept on where its answer was seen to be right.
+fn by_kept(
     alloc: Global,
     ledger: &mut Ledger,
     kept: &mut Option<Search>,
@@ -123,8 +187,7 @@ fn by_search(
         Some(search) => search,
         None => loaded(alloc, vars, ledger)?,
     };
-    let outcome = searched(alloc, ledger, &mut search, assumed, order)?;
-    let found = seen(&search, outcome, vars, ledger, assumed)?;
+    let found = by_search(alloc, ledger, &mut search, vars, assumed, order)?;
     if found.is_some() {
         *kept = Some(search);
     }
@@ -207,7 +270,7 @@ impl Solver {
         if is_over(&self.ledger) {
             return Ok(Verdict::Denied);
         }
-        let found = by_search(
+        let found = by_kept(
             self.alloc,
             &mut self.ledger,
             &mut self.search,
