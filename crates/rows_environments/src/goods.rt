@@ -1,5 +1,8 @@
-ghost use Rattle.std.specs.Prelude.{◌≡◌, ◌≢◌, IfOk, IfSome, MatchBool};
-ghost use Rattle.std.specs.List.{All, AllPairs, list_all};
+ghost use Rattle.std.specs.Prelude.{◌≡◌, ◌≢◌, IfOk, IfSome};
+ghost use Rattle.std.specs.List.{AllPairs, list_any};
+ghost use Rattle.conda_base.specs.Texts.{is_text};
+ghost use Rattle.conda_goods.specs.Claims.{same_owner};
+ghost use Rattle.conda_goods.specs.Conflicts.{OwnersRepeatNoPath};
 
 use conda_base::{Copied, Text};
 use conda_goods::{Goods, GoodsErr, Owned, Owner, union};
@@ -19,7 +22,7 @@ pub fn answer(alloc: Global, call: &str, arguments: &[Text]) -> Result<Option<St
 
 /// Whether one of the goods has the path.
 fn has_path(goods: &[Good], path: &RelPath) -> bool
-    ensures { MatchBool result Unit (All (λ good. good.path ≢ path.now) goods.now) }
+    ensures { result ≡ list_any (λ good. is_text good.path path.now) goods.now }
 {
     for good in goods {
         if good.path == *path {
@@ -102,7 +105,7 @@ fn read_part(alloc: Global, text: &str) -> Result<Option<Owned>, AllocError> {
 
 /// Whether one of the parts has the owner.
 fn has_owner(parts: &[Owned], owner: &Owner) -> bool
-    ensures { MatchBool result Unit (All (λ part. part.owner ≢ owner.now) parts.now) }
+    ensures { result ≡ list_any (λ part. same_owner part.owner owner.now) parts.now }
 {
     for part in parts {
         if part.owner == *owner {
@@ -114,8 +117,7 @@ fn has_owner(parts: &[Owned], owner: &Owner) -> bool
 
 /// The parts, of which no two have one owner.
 fn read_parts(alloc: Global, texts: &[Text]) -> Result<Option<Vec<Owned>>, AllocError>
-    ensures { IfOk result (λ found. IfSome found
-        (λ parts. AllPairs (λ a b. a.owner ≢ b.owner) parts.items)) }
+    ensures { IfOk result (λ found. IfSome found (λ parts. OwnersRepeatNoPath parts.items)) }
 {
     let mut parts = Vec::new(alloc);
     for text in texts {
