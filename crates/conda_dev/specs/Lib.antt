@@ -1,9 +1,10 @@
 pub use Rattle.conda_device.specs.Fault
-pub use Rattle.conda_device.specs.Gots
+pub use Rattle.conda_device.specs.Channels
 pub use Rattle.conda_device.specs.Hosts
 pub use Rattle.conda_device.specs.Keys
 pub use Rattle.conda_device.specs.Lanes
 pub use Rattle.conda_device.specs.Seen
+pub use Rattle.conda_device.specs.Stores
 pub use Rattle.conda_device.specs.Streams
 pub use Rattle.conda_device.specs.Tree
 pub use Rattle.conda_device.specs.Trees

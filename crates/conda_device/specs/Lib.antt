@@ -5,5 +5,6 @@ pub mod Trees
 pub mod Lanes
 pub mod Keys
 pub mod Seen
-pub mod Gots
+pub mod Channels
+pub mod Stores
 pub mod Hosts

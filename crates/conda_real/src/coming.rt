@@ -2,7 +2,8 @@ ghost use Rattle.std.specs.Prelude.{OnOk};
 ghost use Rattle.std.specs.Io.KnownBytes.{Appends};
 
 use crate::places::PARTS;
-use conda_path::{Kind, Node};
+use conda_path::Kind;
+use std::alloc::{AllocError, Global};
 use std::fs::{self, OpenOptions};
 use std::io::{self, ErrorKind, Write};
 use std::os::unix::fs::{OpenOptionsExt, symlink};
@@ -78,9 +79,8 @@ pub fn write_whole<W: Write>(file: &mut W, bytes: &[u8]) -> io::Result<()>
 }
 
 /// Makes a file or a soft link where nothing is.
-fn make_once(rt: &impl Files, place: &str, node: &Node) -> io::Result<()> {
-    let bytes = node.bytes.as_slice();
-    let mode = match node.kind {
+fn make_once(rt: &impl Files, place: &str, kind: Kind, bytes: &[u8]) -> io::Result<()> {
+    let mode = match kind {
         Kind::Soft => {
             let Ok(target) = str::from_utf8(bytes) else {
                 return Err(io::Error::from(ErrorKind::InvalidData));
@@ -98,9 +98,9 @@ fn make_once(rt: &impl Files, place: &str, node: &Node) -> io::Result<()> {
 
 /// Makes a file or a soft link at a temporary place. A missing folder is made, and what an earlier
 /// run left gives way.
-fn make_temporary(rt: &impl Files, place: &str, node: &Node) -> io::Result<()> {
+fn make_temporary(rt: &impl Files, place: &str, kind: Kind, bytes: &[u8]) -> io::Result<()> {
     for _ in 0..TRIES {
-        match make_once(rt, place, node) {
+        match make_once(rt, place, kind, bytes) {
             Err(e) if e.kind() == ErrorKind::NotFound => make_folder(rt, place)?,
             Err(e) if e.kind() == ErrorKind::AlreadyExists => fs::remove_file(rt, place)?,
             made => return made,
@@ -109,10 +109,26 @@ fn make_temporary(rt: &impl Files, place: &str, node: &Node) -> io::Result<()> {
     Err(io::Error::from(ErrorKind::NotFound))
 }
 
+/// The temporary place of a writer, by its number, in the folder of a place. Its name is no path of
+/// a tree.
+pub fn temporary_place(alloc: Global, place: &str, number: u32) -> Result<String, AllocError> {
+    let folder = match place.rsplit_once('/') {
+        Some((folder, _)) => folder,
+        None => ".",
+    };
+    format!(in alloc; "{folder}/.conda-{number}\u{7f}")
+}
+
 /// Makes a file or a soft link at a temporary place and brings it to its own. After an error
 /// neither is there.
-pub fn make(rt: &impl Files, temporary: &str, place: &str, node: &Node) -> io::Result<()> {
-    let mut made = make_temporary(rt, temporary, node);
+pub fn make(
+    rt: &impl Files,
+    temporary: &str,
+    place: &str,
+    kind: Kind,
+    bytes: &[u8],
+) -> io::Result<()> {
+    let mut made = make_temporary(rt, temporary, kind, bytes);
     if made.is_ok() {
         made = bring(rt, Coming::Moved(temporary), place);
     }

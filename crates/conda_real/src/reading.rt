@@ -3,15 +3,18 @@ ghost use Rattle.std.specs.Io.KnownBytes.{Consumes, IsAtEnd};
 ghost use Rattle.conda_real.specs.Reads.{Took};
 ghost use Rattle.conda_real.specs.Refusals.{count_after, device_count_after};
 
-use crate::places::{Found, found_at, is_behind_link};
+use crate::places::{Found, file_size, found_at, is_behind_link};
 use crate::refusal::{answered, done, refused};
 use conda_base::Bytes;
 use conda_device::{DeviceErr, Failed, FaultCount, Seen};
 use conda_path::{Kind, Node};
 use std::alloc::{AllocError, Global};
-use std::fs::{self, OpenFile};
+use std::fs;
 use std::io::{self, ErrorKind, Read};
 use std::rt::Files;
+
+/// The least room that a read takes, where so much is asked for: a file may have grown.
+const SMALL: u64 = 512;
 
 /// The most bytes that one read asks for.
 const CHUNK: u64 = 131_072;
@@ -105,16 +108,18 @@ pub fn read_first<F: Read>(
         length bytes.items < max → IsAtEnd (F.remaining file.new)) }
     ensures count { faults.new.count ≡ device_count_after result faults.old.count }
 {
-    let size = likely.saturating_add(1).min(max).clamp(1, CHUNK);
+    let room = likely.saturating_add(1).max(SMALL);
+    let size = room.min(max).clamp(1, CHUNK);
     let mut buffer = vec![in alloc; 0_u8; size as usize]?;
     read_by(alloc, file, buffer.as_mut_slice(), max, faults)
 }
 
-/// At most the first `max` bytes of a file, or None where nothing is there.
-pub fn file_bytes(
+/// At most the first `max` bytes of a file that is likely so long, or None where nothing is there.
+fn file_bytes(
     alloc: Global,
     rt: &impl Files,
     place: &str,
+    likely: u64,
     max: u64,
     faults: &mut FaultCount,
 ) -> Result<Option<Vec<u8>>, DeviceErr>
@@ -124,11 +129,25 @@ pub fn file_bytes(
     let Some(mut file) = answered(fs::open(rt, place), faults)? else {
         return Ok(None);
     };
-    let likely = match file.metadata() {
-        Ok(data) => data.len(),
-        Err(_) => 0,
-    };
     Ok(Some(read_first(alloc, &mut file, likely, max, faults)?))
+}
+
+/// At most the first `max` bytes of the file to which a place leads, or None where it leads to none.
+/// Soft links are followed.
+pub fn bytes_at(
+    alloc: Global,
+    rt: &impl Files,
+    place: &str,
+    max: u64,
+    faults: &mut FaultCount,
+) -> Result<Option<Vec<u8>>, DeviceErr>
+    ensures bound { IfOk result (λ read. IfSome read (λ bytes. length bytes.items ≤ max)) }
+    ensures count { faults.new.count ≡ device_count_after result faults.old.count }
+{
+    match done(file_size(rt, place), faults)? {
+        Some(size) => file_bytes(alloc, rt, place, size, max, faults),
+        None => Ok(None),
+    }
 }
 
 /// At most the first `max` bytes.
@@ -140,7 +159,7 @@ fn first_of(alloc: Global, bytes: &[u8], max: u64) -> Result<Vec<u8>, AllocError
 }
 
 /// At most the first `max` bytes of a soft link's target, which has to be UTF-8.
-fn target_bytes(
+pub fn target_bytes(
     alloc: Global,
     rt: &(impl Files + AllocGlobal),
     place: &str,
@@ -170,12 +189,12 @@ pub fn node_at(
     ensures bound { IfOk result (λ read. IfSome read (λ node. length node.bytes ≤ max)) }
     ensures count { faults.new.count ≡ device_count_after result faults.old.count }
 {
-    let Some(Seen { kind, .. }) = seen_at(rt, folder, place, faults)? else {
+    let Some(Seen { kind, size }) = seen_at(rt, folder, place, faults)? else {
         return Ok(None);
     };
     let bytes = match kind {
         Kind::Soft => answered(target_bytes(alloc, rt, place, max), faults)?,
-        Kind::File | Kind::Exec => file_bytes(alloc, rt, place, max, faults)?,
+        Kind::File | Kind::Exec => file_bytes(alloc, rt, place, size, max, faults)?,
     };
     Ok(bytes.map(|bytes| Node {
         kind,

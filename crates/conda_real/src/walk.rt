@@ -2,7 +2,7 @@ ghost use Rattle.std.specs.Prelude.{◌≡◌, ◌==◌, All, IfOk, filter};
 ghost use Rattle.conda_base.specs.Texts.{Ascending};
 ghost use Rattle.conda_path.specs.Lanes.{lane_number};
 
-use crate::places::{Found, found_at};
+use crate::places::{Found, found_at, place_in};
 use crate::refusal::is_absent;
 use crate::share::Share;
 use conda_path::{PathErr, RelPath, lane_of};
@@ -16,14 +16,6 @@ use std::rt::Files;
 struct Walk {
     folders: Vec<String>,
     paths: Vec<RelPath>,
-}
-
-/// The text of a name below a folder.
-fn text_in(alloc: Global, folder: &str, name: &str) -> Result<String, AllocError> {
-    if folder.is_empty() {
-        return String::from_str(alloc, name);
-    }
-    format!(in alloc; "{folder}/{name}")
 }
 
 /// The path of a text, if it is one.
@@ -66,7 +58,7 @@ fn read_all<R: Files + AllocGlobal + Clone + Drop>(
             Err(e) if e.kind() == ErrorKind::InvalidFilename => continue,
             Err(e) => return Err(e),
         };
-        let text = text_in(alloc, folder, entry.file_name())?;
+        let text = place_in(alloc, folder, entry.file_name())?;
         let stands = found_at(rt, entry.path().as_str())?;
         note(alloc, walk, text, stands)?;
     }
@@ -88,7 +80,7 @@ fn all_paths<R: Files + AllocGlobal + Clone + Drop>(
         let Some(folder) = walk.folders.pop() else {
             return Ok(walk.paths);
         };
-        let place = text_in(alloc, top, folder.as_str())?;
+        let place = place_in(alloc, top, folder.as_str())?;
         match fs::read_dir(rt, place.as_str()) {
             Ok(listing) => read_all(alloc, rt, folder.as_str(), listing, &mut walk)?,
             Err(e) if is_absent(&e) => {}
