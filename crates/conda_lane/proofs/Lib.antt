@@ -4,3 +4,4 @@ pub mod WalkLemmas
 pub mod StepLemmas
 pub mod EffectLemmas
 pub mod PurgeLemmas
+pub mod SupplyLemmas

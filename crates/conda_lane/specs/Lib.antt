@@ -3,3 +3,4 @@ pub mod Undo
 pub mod Calls
 pub mod Purge
 pub mod Steps
+pub mod Supplies
