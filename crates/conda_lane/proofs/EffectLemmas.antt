@@ -1,6 +1,5 @@
 -- What stands between, and what undoing gives, after each call.
-use Rattle.std.proofs.Common.{◌≡◌, ◌⊎◌, inl, inr, List, Bool, true, false, cond, is_some, IfSome, Option, Some, None, option_map, refl, ap, subst, sym, ◌∙◌}
-use Rattle.std.specs.List.{AllByRecursion}
+use Rattle.std.proofs.Common.{◌≡◌, inl, inr, List, Bool, true, false, is_some, Option, Some, None, option_map, refl, ap, subst, sym, ◌∙◌}
 use Rattle.conda_path.specs.declared.values.Node.{Node}
 use Rattle.conda_device.specs.Tree.{Tree}
 use Rattle.conda_lane.specs.declared.change.Change.{Change}
@@ -11,7 +10,7 @@ use Rattle.conda_lane.specs.Steps.{IsPut, IsSame}
 use Rattle.conda_lane.specs.Undo.{CanMoveBack, HasOneNode, IsCleared, IsClearedAt, IsMovedBack, IsMovedBackAt, cleared, moved_back, undone, undone_path, undone_trash}
 use Rattle.conda_lane.proofs.Lists.{all_map, all_zip}
 use Rattle.conda_lane.proofs.UndoLemmas.{none_there, undone_exact, undone_halves, undone_only, undone_start}
-use Rattle.conda_lane.proofs.WalkLemmas.{Halted, IsLocal, Plain, leads_from, leads_map, leads_then}
+use Rattle.conda_lane.proofs.WalkLemmas.{Halted, IsLocal, Plain}
 
 -- ---- effects are a matter of the two paths
 
@@ -126,7 +125,7 @@ alike_undone before now cs apart alike =
 halted_alike : (E : Tree → Tree → Change → Type 0) (before now : Tree) (cs : List Change) → ((c : Change) → E before now c → UndoesAlike before now c)
     → AreApart cs → Halted E cs before now → undone now cs ≡ undone before cs
 halted_alike E before now cs f apart halted = alike_undone before now cs apart (record {
-  each = all_map (λ c h. elim h [ | inl e ↦ f c e | inr same ↦ same_alike before now c same ]) cs halted.each;
+  each = all_map (λ c h. elim h [ inl e ↦ f c e | inr same ↦ same_alike before now c same ]) cs halted.each;
   others = halted.others;
 })
 
@@ -227,7 +226,7 @@ module _ (kept start before now : Tree) (cs : List Change) (ready : IsStart star
   halted_between E f halted between =
       let states = all_zip {R = λ c. IsReady start c × IsBetween kept start before c} (λ c r s. (r, s)) cs ready between.each in
       record {
-        each = all_zip (λ c h s. elim h [ | inl e ↦ f c s.0 e s.1 | inr same ↦ same_state kept start before now c s.0 same s.1 ]) cs halted.each states;
+        each = all_zip (λ c h s. elim h [ inl e ↦ f c s.0 e s.1 | inr same ↦ same_state kept start before now c s.0 same s.1 ]) cs halted.each states;
         others = λ p none. halted.others p none ∙ between.others p none;
       }
 

@@ -5,3 +5,4 @@ pub mod StepLemmas
 pub mod EffectLemmas
 pub mod PurgeLemmas
 pub mod SupplyLemmas
+pub mod ShareLemmas

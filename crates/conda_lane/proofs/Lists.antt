@@ -1,5 +1,5 @@
 -- Lists of changes, and the paths that they name.
-use Rattle.std.proofs.Common.{◌≡◌, ◌≢◌, ◌⊎◌, ◌||◌, ℕ, zero, suc, ◌+◌, ◌<◌, List, [], ◌∷◌, length, get_or, Bool, true, false, true≢false, T, Option, Some, None, refl, ap, subst, sym, ◌∙◌}
+use Rattle.std.proofs.Common.{◌≡◌, ◌||◌, ℕ, List, [], ◌∷◌, Bool, true, false, true≢false, refl, subst, sym, ◌∙◌}
 use Rattle.std.specs.List.{AllByRecursion, IsDistinct, list_any}
 use Rattle.std.specs.Str.{bytes_eq}
 use Rattle.std.proofs.lemmas.Slice.Eq.{bytes_eq-Decides}
@@ -65,7 +65,7 @@ false_or : (a b : Bool) → (a || b) ≡ false → (a ≡ false) × (b ≡ false
 false_or true b h = absurd (true≢false h)
 false_or false b h = (refl, h)
 
-or_false : (a b : Bool) → a ≡ false → b ≡ false → (a || b) ≡ false
+pub or_false : (a b : Bool) → a ≡ false → b ≡ false → (a || b) ≡ false
 or_false true b h i = h
 or_false false b h i = i
 
@@ -77,7 +77,7 @@ unnamed c cs p h =
     let second = false_or (bytes_eq p c.trash) (is_named cs p) first.1 in
     (first.0, second.0, second.1)
 
-none_named : (p : List ℕ) (ps : List (List ℕ)) → AllByRecursion (λ y. bytes_eq p y ≡ false) ps → list_any (bytes_eq p) ps ≡ false
+pub none_named : (p : List ℕ) (ps : List (List ℕ)) → AllByRecursion (λ y. bytes_eq p y ≡ false) ps → list_any (bytes_eq p) ps ≡ false
 none_named p [] h = refl
 none_named p (q ∷ ps) h = or_false (bytes_eq p q) (list_any (bytes_eq p) ps) h.0 (none_named p ps h.1)
 

@@ -1,17 +1,16 @@
 -- What undoing makes of a tree, at each path.
-use Rattle.std.proofs.Common.{◌≡◌, ◌⊎◌, inl, inr, ℕ, List, [], ◌∷◌, Bool, true, false, true≢false, cond, IsSome, is_some, IfSome, Option, Some, None, refl, ap, subst, sym, ◌∙◌}
+use Rattle.std.proofs.Common.{◌≡◌, inl, inr, ℕ, List, [], ◌∷◌, Bool, true, false, true≢false, cond, is_some, Option, Some, None, refl, ap, sym, ◌∙◌}
 use Rattle.std.specs.List.{AllByRecursion}
 use Rattle.std.specs.Str.{bytes_eq}
 use Rattle.std.specs.FinMap as map
-use Rattle.conda_path.specs.declared.values.Good.{Good}
 use Rattle.conda_path.specs.declared.values.Node.{Node}
 use Rattle.conda_device.specs.Tree.{Tree}
 use Rattle.conda_device.specs.Trees.{get_erased, get_put, same_trees}
 use Rattle.conda_lane.specs.declared.change.Change.{Change}
-use Rattle.conda_lane.specs.Changes.{AreApart, Between, IsBetween, IsFinished, IsMoved, IsNew, IsReady, IsStart, IsUntouched, Stands, at, is_named}
+use Rattle.conda_lane.specs.Changes.{AreApart, Between, IsBetween, IsReady, IsStart, at, is_named}
 use Rattle.conda_lane.specs.Steps.{Goes}
-use Rattle.conda_lane.specs.Undo.{IsCleared, IsClearedAt, IsMovedBack, IsMovedBackAt, IsUndone, IsUndoneAt, back, cleared, moved_back, undone, undone_one, undone_path, undone_trash}
-use Rattle.conda_lane.proofs.Lists.{all_map, all_zip, apart_rest, apart_sym, eq_self, first_unnamed, others_apart, own_apart, same_named, unnamed, IsApart}
+use Rattle.conda_lane.specs.Undo.{IsCleared, IsMovedBack, IsUndone, IsUndoneAt, back, cleared, moved_back, undone, undone_one, undone_path, undone_trash}
+use Rattle.conda_lane.proofs.Lists.{all_zip, apart_rest, apart_sym, eq_self, first_unnamed, others_apart, own_apart, same_named, unnamed}
 
 -- ---- trees that are the same
 
@@ -82,14 +81,16 @@ undone_more tree rest now c cs apart before goes =
     let path : at rest c.path ≡ at tree c.path = before.others c.path free.0 in
     let trash : at rest c.trash ≡ at tree c.trash = before.others c.trash free.1 in
     record {
-      each =
-          (record {
-            path = goes.own.path ∙ ap (λ o. undone_path c.old o (at rest c.trash)) path ∙ ap (undone_path c.old (at tree c.path)) trash;
-            trash = goes.own.trash ∙ ap (undone_trash c.old) trash;
-          }, all_zip (λ d away is. record {
-            path = goes.others d.path away.path_path away.path_trash ∙ is.path;
-            trash = goes.others d.trash away.trash_path away.trash_trash ∙ is.trash;
-          }) cs (others_apart c cs apart) before.each);
+      each = (
+        record {
+          path = goes.own.path ∙ ap (λ o. undone_path c.old o (at rest c.trash)) path ∙ ap (undone_path c.old (at tree c.path)) trash;
+          trash = goes.own.trash ∙ ap (undone_trash c.old) trash;
+        },
+        all_zip (λ d away is. record {
+          path = goes.others d.path away.path_path away.path_trash ∙ is.path;
+          trash = goes.others d.trash away.trash_path away.trash_trash ∙ is.trash;
+        }) cs (others_apart c cs apart) before.each,
+      );
       others = λ p none. let parts = unnamed c cs p none in goes.others p parts.0 parts.1 ∙ before.others p parts.2;
     }
 

@@ -1,5 +1,5 @@
 -- One change after another: a step on one change leaves the paths of the others. One lemma, `walk_more`, serves all steps.
-use Rattle.std.proofs.Common.{◌≡◌, ◌⊎◌, inl, inr, ℕ, zero, suc, ◌+◌, ◌<◌, ◌≤◌, List, [], ◌∷◌, length, get_or, false, Option, Some, None, IfSome, refl, ap, subst, sym, ◌∙◌, add-one, arith}
+use Rattle.std.proofs.Common.{◌≡◌, ◌⊎◌, inl, inr, ℕ, zero, suc, ◌+◌, ◌<◌, ◌≤◌, List, [], ◌∷◌, length, get_or, false, Option, Some, None, IfSome, refl, subst, sym, ◌∙◌, add-one, arith}
 use Rattle.std.specs.List.{AllByRecursion}
 use Rattle.std.specs.Str.{bytes_eq}
 use Rattle.conda_device.specs.Lanes.{IsInShare, Share}

@@ -1,5 +1,5 @@
 -- What a call makes of a lane's tree, where it is told. This project's own.
-use Rattle.std.specs.Prelude.{◌≡◌, Option, Some, None}
+use Rattle.std.specs.Prelude.{Option, Some, None}
 use Rattle.conda_device.specs.Tree.{Tree}
 
 -- a tree is told now exactly where one was before, and the two are so

@@ -4,3 +4,4 @@ pub mod Calls
 pub mod Purge
 pub mod Steps
 pub mod Supplies
+pub mod Shares

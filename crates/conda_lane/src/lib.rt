@@ -11,7 +11,7 @@ mod supply;
 mod undoing;
 
 pub use change::Change;
-pub use laws::undo_laws;
+pub use laws::{share_laws, undo_laws};
 pub use moving::move_out;
 pub use purging::purge;
 pub use putting::put_in;

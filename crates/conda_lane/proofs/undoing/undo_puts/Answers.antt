@@ -1,8 +1,7 @@
 use Rattle.std.proofs.Common.{refl, arith, ◌∙◌}
-use Rattle.conda_lane.specs.Undo.{HasOneNode, IsClearedAt}
-use Rattle.conda_lane.specs.Changes.{at}
-use Rattle.conda_lane.proofs.EffectLemmas.{cleared_between, cleared_undone, cleared_local, one_node_at}
-use Rattle.conda_lane.proofs.WalkLemmas.{Plain, change_later, leads_map, step_off, step_on, still_so, walk_first, walk_halted, walk_whole}
+use Rattle.conda_lane.specs.Undo.{IsClearedAt}
+use Rattle.conda_lane.proofs.EffectLemmas.{cleared_between, cleared_undone, cleared_local}
+use Rattle.conda_lane.proofs.WalkLemmas.{Plain, change_later, leads_map, step_off, step_on, walk_first, walk_halted, walk_whole}
 use Rattle.conda_lane.proofs.undoing.undo_puts.Goals as goal
 
 pub loop-change-init : goal.loop-change-init
@@ -11,7 +10,6 @@ loop-change-init g c = record { told = walk_first (Plain IsClearedAt) c.args.cha
 pub clear-requires-after_bounds : goal.clear-requires-after_bounds
 clear-requires-after_bounds g c = λ _ _.
     change_later _ _ c.loop-change.change-index c.change-item.result c.args.changes.now c.loop-change.invariant.share c.requires c.loop-change-test.true c.change-item.is
-
 
 pub returns-in_err-clear-clause-same : goal.returns-in_err-clear-clause-same
 returns-in_err-clear-clause-same g c =
