@@ -10,7 +10,7 @@ use Rattle.conda_device.specs.Tree.{Tree}
 use Rattle.conda_lane.specs.declared.change.Change.{Change}
 use Rattle.conda_lane.specs.Calls.{Leads}
 use Rattle.conda_lane.specs.Steps.{Goes, IsPut}
-use Rattle.conda_lane.specs.Supplies.{Absent, AskedOnly, ChanFile, ChanHandle, EachHandle, HasCauseOf, HasSupplyCause, IsChanLack, IsStoreLack, Keeps, KeepsChan, KeepsLacks, KeepsStore, LacksChan, LacksFile, LacksStore, Other, SomeHandle, StoreFile, StoreHandle, SupplyState, cause_of}
+use Rattle.conda_lane.specs.Supplies.{Absent, AskedOnly, ChanFile, ChanHandle, EachHandle, HasCauseOf, HasSupplyCause, IsChanLack, IsChanPath, IsStoreLack, Keeps, KeepsChan, KeepsLacks, KeepsStore, LacksChan, LacksFile, LacksStore, Other, SomeHandle, StoreFile, StoreHandle, SupplyState, cause_of}
 use Rattle.conda_lane.specs.declared.supply.SupplyErr.{SupplyErr}
 use Rattle.conda_lane.specs.declared.supply.SupplyErr.TheVariants as supply
 use Rattle.conda_lane.specs.declared.supply.Cause.{Cause}
@@ -55,25 +55,25 @@ lacks_then P a b c h i = record {
 }
 
 chan_self : (files : List ChanFile) (place : ℕ) (h : ChanHandle) → KeepsChan files place h h
-chan_self files place h = record { name = refl; told = refl; asked = asked_self _ h.asked; faults = omega arith; lacks = lacks_self _ h.lacks }
+chan_self files place h = record { name = refl; told = refl; asked = asked_self (IsChanPath files place) h.asked; faults = omega arith; lacks = lacks_self (IsChanLack files place) h.lacks }
 
 chan_then : (files : List ChanFile) (place : ℕ) (a b c : ChanHandle) → KeepsChan files place a b → KeepsChan files place b c → KeepsChan files place a c
 chan_then files place a b c h i = record {
   name = i.name ∙ h.name;
   told = i.told ∙ h.told;
-  asked = asked_then _ a.asked b.asked c.asked h.asked i.asked;
+  asked = asked_then (IsChanPath files place) a.asked b.asked c.asked h.asked i.asked;
   faults = let x = h.faults in let y = i.faults in omega (arith, x, y);
-  lacks = lacks_then _ a.lacks b.lacks c.lacks h.lacks i.lacks;
+  lacks = lacks_then (IsChanLack files place) a.lacks b.lacks c.lacks h.lacks i.lacks;
 }
 
 store_self : (files : List StoreFile) (place : ℕ) (h : StoreHandle) → KeepsStore files place h h
-store_self files place h = record { touched = refl; faults = omega arith; lacks = lacks_self _ h.lacks }
+store_self files place h = record { touched = refl; faults = omega arith; lacks = lacks_self (IsStoreLack files place) h.lacks }
 
 store_then : (files : List StoreFile) (place : ℕ) (a b c : StoreHandle) → KeepsStore files place a b → KeepsStore files place b c → KeepsStore files place a c
 store_then files place a b c h i = record {
   touched = i.touched ∙ h.touched;
   faults = let x = h.faults in let y = i.faults in omega (arith, x, y);
-  lacks = lacks_then _ a.lacks b.lacks c.lacks h.lacks i.lacks;
+  lacks = lacks_then (IsStoreLack files place) a.lacks b.lacks c.lacks h.lacks i.lacks;
 }
 
 -- ---- the handles
@@ -88,12 +88,12 @@ module _ {H : Type 0} (R : ℕ → H → H → Type 0) where
     each = λ place was is at_was at_is. subst (λ x. R place was x) (one_of (slice_get hs place) was is at_was at_is) (self place was);
   }
 
+none_some : {H : Type 0} (x : H) → None ≡ Some x → ⊥
+none_some x e = cc
+
 -- the handle at a place of a list that is as long
 get_too : {H : Type 0} (xs ys : List H) (i : ℕ) (x : H) → length ys ≡ length xs → slice_get xs i ≡ Some x → (y : H) × (slice_get ys i ≡ Some y)
-get_too [] ys i x same is = let e : None ≡ Some x = is in absurd (none_some x e)
-  where
-    none_some : (x : H) → None ≡ Some x → ⊥
-    none_some x e = cc
+get_too [] ys i x same is = absurd (none_some x is)
 get_too (a ∷ xs) [] i x same is = absurd (omega (arith, same))
 get_too (a ∷ xs) (b ∷ ys) zero x same is = (b, refl)
 get_too (a ∷ xs) (b ∷ ys) (suc i) x same is = get_too xs ys i x (omega (arith, same)) is
@@ -108,7 +108,10 @@ each_then R trans hs is js first second = record {
 
 pub keeps_self : (state : SupplyState) → Keeps state state
 keeps_self state = record {
-  goods = refl; kept = refl; chan_files = refl; store_files = refl;
+  goods = refl;
+  kept = refl;
+  chan_files = refl;
+  store_files = refl;
   chans = each_self (KeepsChan state.chan_files) (chan_self state.chan_files) state.chans;
   stores = each_self (KeepsStore state.store_files) (store_self state.store_files) state.stores;
 }
@@ -142,18 +145,21 @@ since K R f hs is js each some =
     }
 
 -- a count of lacks that has not fallen
-abbrev pub NeverFalls : (Lacks → ℕ) → Type 0
+abbrev pub NeverFalls : (Lacks → ℕ) → Type 1
 NeverFalls count = (P : Lack → Type 0) (a b : Lacks) → KeepsLacks P a b → count a ≤ count b
 
 chan_lacks_since : (count : Lacks → ℕ) (Found : Option Digest → Type 0) → NeverFalls count → (files : List ChanFile) (place : ℕ) (a b c : ChanHandle)
     → KeepsChan files place a b → LacksChan count Found files place b c → LacksChan count Found files place a c
-chan_lacks_since count Found never files place a b c h i = record { rose = rose_since _ _ _ (never _ a.lacks b.lacks h.lacks) i.rose; last = i.last }
+chan_lacks_since count Found never files place a b c h i = record { rose = rose_since (count a.lacks) (count b.lacks) (count c.lacks) (never (IsChanLack files place) a.lacks b.lacks h.lacks) i.rose; last = i.last }
 
 store_lacks_since : (count : Lacks → ℕ) (Found : Option Digest → Type 0) → NeverFalls count → (files : List StoreFile) (place : ℕ) (a b c : StoreHandle)
     → KeepsStore files place a b → LacksStore count Found files place b c → LacksStore count Found files place a c
 store_lacks_since count Found never files place a b c h i = record {
-  rose = rose_since _ _ _ (never _ a.lacks b.lacks h.lacks) i.rose;
-  file = i.file; one = i.one; handle = i.handle; last = i.last;
+  rose = rose_since (count a.lacks) (count b.lacks) (count c.lacks) (never (IsStoreLack files place) a.lacks b.lacks h.lacks) i.rose;
+  file = i.file;
+  one = i.one;
+  handle = i.handle;
+  last = i.last;
 }
 
 lacks_since : (count : Lacks → ℕ) (Found : Option Digest → Type 0) → NeverFalls count → (a b c : SupplyState) → Keeps a b → LacksFile count Found b c → LacksFile count Found a c

@@ -1,4 +1,4 @@
-use Rattle.std.proofs.Common.{refl, arith, sym, subst, ap, ◌∙◌}
+use Rattle.std.proofs.Common.{rules, refl, arith, sym, subst, ap, ◌∙◌}
 use Rattle.conda_lane.specs.Calls.{Leads}
 use Rattle.conda_lane.specs.Changes.{IsMovedOut, at}
 use Rattle.conda_lane.specs.Steps.{Goes, IsPut}
@@ -65,3 +65,12 @@ returns-clause-between g c = λ start.
     let kept = (g.S.Supply.state c.args.supply.now).kept in
     leads_map (λ before now h. put_between kept start before now changes h) _ _
     (walk_halted (IsPut kept) c.loop-change.change-index changes _ _ c.loop-change.invariant.told)
+
+pub returns-in_err-put_one-clause-keeps : goal.returns-in_err-put_one-clause-keeps
+returns-in_err-put_one-clause-keeps g c = keeps_then _ _ _ c.loop-change.invariant.keeps c.in_err-put_one.ensures.keeps
+
+pub returns-in_err-put_one-clause-cause : goal.returns-in_err-put_one-clause-cause
+returns-in_err-put_one-clause-cause g c =
+    let since = stopped_since c.in_err-put_one.field-0.0.cause (g.L.Lane.faults c.args.lane.now) (g.L.Lane.faults c.loop-change.lane) (g.L.Lane.faults c.put_one.new.lane)
+    (g.S.Supply.state c.args.supply.now) (g.S.Supply.state c.loop-change.supply) (g.S.Supply.state c.put_one.new.supply) c.loop-change.invariant.later c.loop-change.invariant.keeps c.in_err-put_one.ensures.cause in
+    search (rules, since)
