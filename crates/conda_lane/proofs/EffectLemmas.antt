@@ -4,8 +4,9 @@ use Rattle.conda_path.specs.declared.values.Node.{Node}
 use Rattle.conda_device.specs.Tree.{Tree}
 use Rattle.conda_lane.specs.declared.change.Change.{Change}
 use Rattle.conda_lane.specs.Calls.{Leads}
-use Rattle.conda_lane.specs.Changes.{AreApart, Between, IsBetween, IsMoved, IsNew, IsReady, IsStart, IsUntouched, Stands, at}
-use Rattle.conda_lane.specs.Steps.{IsSame}
+use Rattle.conda_lane.specs.Changes.{AllFinished, AllMoved, AreApart, Between, IsBetween, IsFinished, IsMoved, IsMovedOut, IsNew, IsReady, IsStart, IsUntouched, Stands, at}
+use Rattle.conda_lane.specs.Purge.{IsErased, erased_trash}
+use Rattle.conda_lane.specs.Steps.{IsPut, IsSame}
 use Rattle.conda_lane.specs.Undo.{CanMoveBack, HasOneNode, IsCleared, IsClearedAt, IsMovedBack, IsMovedBackAt, cleared, moved_back, undone, undone_path, undone_trash}
 use Rattle.conda_lane.proofs.Lists.{all_map, all_zip}
 use Rattle.conda_lane.proofs.UndoLemmas.{none_there, undone_exact, undone_halves, undone_only, undone_start}
@@ -47,6 +48,32 @@ moved_between kept before now cs ready halted = record {
   ]) cs ready halted.each;
   others = halted.others;
 }
+
+-- ---- putting in
+
+pub put_local : (kept : Tree) → IsLocal (Plain (IsPut kept))
+put_local kept = record {
+  now = λ i before mid now c same h. record { path = subst (λ o. IsNew kept c.path c.new o) (sym same.path) h.path; trash = same.trash ∙ h.trash };
+  before = λ i before mid now c same h. record { path = h.path; trash = h.trash ∙ same.trash };
+}
+
+pub put_between : (kept start before now : Tree) (cs : List Change) → Halted (IsPut kept) cs before now → AllMoved before start cs → Between kept now start cs
+put_between kept start before now cs halted moved = record {
+  each = all_zip (λ c h m. elim h [
+    | inl put ↦ inr (inr (record { path = put.path; trash = put.trash ∙ m.trash }))
+    | inr same ↦ inr (inl (record { path = same.path ∙ m.path; trash = same.trash ∙ m.trash }))
+  ]) cs halted.each moved.each;
+  others = λ p none. halted.others p none ∙ moved.others p none;
+}
+
+pub put_finished : (kept start before now : Tree) (cs : List Change) → Stands (IsPut kept before now) before now cs → AllMoved before start cs → AllFinished kept now start cs
+put_finished kept start before now cs put moved = record {
+  each = all_zip (λ c h m. record { path = h.path; trash = h.trash ∙ m.trash }) cs put.each moved.each;
+  others = λ p none. put.others p none ∙ moved.others p none;
+}
+
+pub free_at : (before now : Tree) (c : Change) → IsSame before now c → IsMovedOut before c → at now c.path ≡ None
+free_at before now c same h = same.path ∙ h.path
 
 -- ---- undoing gives the same again
 

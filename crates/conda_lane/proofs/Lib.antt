@@ -4,4 +4,5 @@ pub mod WalkLemmas
 pub mod StepLemmas
 pub mod EffectLemmas
 pub mod PurgeLemmas
+pub mod SupplyLemmas
 pub mod ShareLemmas

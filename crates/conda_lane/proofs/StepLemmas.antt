@@ -1,18 +1,22 @@
 -- What one device call makes of a change's two paths.
-use Rattle.std.proofs.Common.{◌≡◌, ◌⊎◌, inl, inr, ℕ, List, Bool, true, false, true≢false, cond, is_some, IsSome, IfSome, OnErr, OnOk, Result, Ok, Err, Option, Some, None, refl, ap, subst, sym, ◌∙◌}
+use Rattle.std.proofs.Common.{◌≡◌, ◌⊎◌, inl, inr, ℕ, List, Bool, true, false, true≢false, cond, is_none, is_some, IsSome, IfSome, OnErr, OnOk, Result, Ok, Err, Option, Some, None, refl, ap, subst, sym, ◌∙◌}
 use Rattle.std.specs.Str.{bytes_eq}
 use Rattle.std.specs.FinMap as map
+use Rattle.std.specs.Prelude.{Contains}
+use Rattle.conda_path.specs.declared.values.Good.{Good}
 use Rattle.conda_path.specs.declared.values.Node.{Node}
 use Rattle.conda_device.specs.Fault.{BeforeOrAsked}
-use Rattle.conda_device.specs.Tree.{Tree, move, moved, without}
-use Rattle.conda_device.specs.Trees.{get_erased, get_moved}
+use Rattle.conda_device.specs.Tree.{Tree, move, moved, with_node, without}
+use Rattle.conda_device.specs.Trees.{get_erased, get_moved, get_put}
 use Rattle.conda_lane.specs.declared.change.Change.{Change}
 use Rattle.conda_lane.specs.Calls.{Leads}
-use Rattle.conda_lane.specs.Changes.{IsMoved, IsReady, at}
+use Rattle.conda_lane.specs.Changes.{IsMoved, IsNew, IsReady, at}
 use Rattle.conda_lane.specs.Purge.{IsErased, erased_trash}
-use Rattle.conda_lane.specs.Steps.{Goes}
+use Rattle.conda_lane.specs.Steps.{Goes, IsPut, IsPutNode}
+use Rattle.conda_lane.specs.Supplies.{HasGood, IsGiven, SupplyState}
 use Rattle.conda_lane.specs.Undo.{IsClearedAt, IsMovedBackAt, cleared, moved_back, undone_trash}
 use Rattle.conda_lane.proofs.Lists.{apart_sym, eq_self}
+use Rattle.conda_lane.proofs.WalkLemmas.{leads_map}
 
 pub on_err : {A E : Type 0} {P : Type 0} (result : Result A E) → P → OnErr result P
 on_err (Ok x) h = tt
@@ -153,3 +157,64 @@ goes_after E c f t u v is h leads = goes_as E c t (f t) v (h ∙ ap f is) leads
 pub on_ok_map : {A E P Q : Type 0} (result : Result A E) → (P → Q) → OnOk result P → OnOk result Q
 on_ok_map (Ok x) f h = f h
 on_ok_map (Err e) f h = tt
+
+-- ---- a node is put
+
+put_goes : (tree : Tree) (c : Change) (node : Node) → bytes_eq c.path c.trash ≡ false → Goes (IsPutNode node) c tree (map.insert tree c.path node)
+put_goes tree c node own = record {
+  own = record {
+    path = get_put tree c.path c.path node ∙ ap (λ b. cond b (Some node) (at tree c.path)) (eq_self c.path);
+    trash = get_put tree c.path c.trash node ∙ ap (λ b. cond b (Some node) (at tree c.trash)) (apart_sym c.path c.trash own);
+  };
+  others = λ p path trash. get_put tree c.path p node ∙ ap (λ b. cond b (Some node) (at tree p)) path;
+}
+
+pub put_leads : (t : Option Tree) (c : Change) (node : Node) → bytes_eq c.path c.trash ≡ false → Leads (Goes (IsPutNode node) c) t (with_node t c.path node)
+put_leads None c node own = tt
+put_leads (Some tree) c node own = put_goes tree c node own
+
+-- it is the new node of the change
+pub node_is_new : (state : SupplyState) (c : Change) (node : Node) → IsGiven state c.path node → HasGood state.goods c.path c.new → is_none c.new ≡ false
+    → IsNew state.kept c.path c.new (Some node)
+node_is_new state c node given =
+    elim c.new as (λ o. HasGood state.goods c.path o → is_none o ≡ false → IsNew state.kept c.path o (Some node)) [
+      | None ↦ λ has some. absurd (true≢false some)
+      | Some good ↦ λ has some. (given.good good has.1 has.0, given.kept)
+    ]
+
+goes_new : (kept : Tree) (c : Change) (node : Node) (before now : Tree) → IsNew kept c.path c.new (Some node) → Goes (IsPutNode node) c before now → Goes (IsPut kept) c before now
+goes_new kept c node before now new goes = record {
+  own = record { path = subst (λ o. IsNew kept c.path c.new o) (sym goes.own.path) new; trash = goes.own.trash };
+  others = goes.others;
+}
+
+pub leads_new : (kept : Tree) (c : Change) (node : Node) (t u : Option Tree) → IsNew kept c.path c.new (Some node) → Leads (Goes (IsPutNode node) c) t u → Leads (Goes (IsPut kept) c) t u
+leads_new kept c node t u new leads = leads_map (λ before now g. goes_new kept c node before now new g) t u leads
+
+pub went_new : (kept : Tree) (c : Change) (node : Node) (t u : Option Tree) → IsNew kept c.path c.new (Some node)
+    → (u ≡ t) ⊎ Leads (Goes (IsPutNode node) c) t u → (u ≡ t) ⊎ Leads (Goes (IsPut kept) c) t u
+went_new kept c node t u new h = elim h [
+  | inl same ↦ inl same
+  | inr leads ↦ inr (leads_new kept c node t u new leads)
+]
+
+-- a change without a new node has what it may have
+no_new : (kept : Tree) (path : List ℕ) (new : Option Good) (found : Option Node) → is_none new ≡ true → found ≡ None → IsNew kept path new found
+no_new kept path None found none free = free
+no_new kept path (Some good) found none free = absurd (true≢false (sym none))
+
+pub nothing_put : (kept : Tree) (t : Option Tree) (c : Change) → is_none c.new ≡ true → IfSome t (λ tree. at tree c.path ≡ None) → Leads (Goes (IsPut kept) c) t t
+nothing_put kept None c none free = tt
+nothing_put kept (Some tree) c none free = record {
+  own = record { path = no_new kept c.path c.new (at tree c.path) none free; trash = refl };
+  others = λ p path trash. refl;
+}
+
+-- a supply is asked for the path of one of its goods
+pub asked_good : (goods : List Good) (path : List ℕ) (new : Option Good) → HasGood goods path new → is_none new ≡ false → (good : Good) × Contains goods good × (good.path ≡ path)
+asked_good goods path None has some = absurd (true≢false some)
+asked_good goods path (Some good) has some = (good, has.1, has.0)
+
+pub on_err_map : {A E P Q : Type 0} (result : Result A E) → (P → Q) → OnErr result P → OnErr result Q
+on_err_map (Ok x) f h = tt
+on_err_map (Err e) f h = f h

@@ -198,3 +198,10 @@ pub still_so : (Q : Tree → Change → Type 0) (E : Tree → Tree → Change �
     → IfSome t (λ tree. AllByRecursion (Q tree) cs) → Leads (Walk (Plain E) i cs) t u → IfSome u (λ tree. Q tree c)
 still_so Q E i c cs t u f below is each walk =
     leads_to (λ before now q w. f before now (walk_at (Plain E) before now i c cs below is w) (all_at (Q before) i c cs below is q)) t u each walk
+
+-- the same of another fact of the tree
+pub found_so : {P : Tree → Type 0} (Q : Tree → Change → Type 0) (E : Tree → Tree → Change → Type 0) (i : ℕ) (c : Change) (cs : List Change) (t u : Option Tree)
+    → ((before now : Tree) → IsSame before now c → Q before c → P now) → i < length cs → c ≡ get_or cs i c
+    → IfSome t (λ tree. AllByRecursion (Q tree) cs) → Leads (Walk (Plain E) i cs) t u → IfSome u P
+found_so Q E i c cs t u f below is each walk =
+    leads_to (λ before now q w. f before now (walk_at (Plain E) before now i c cs below is w) (all_at (Q before) i c cs below is q)) t u each walk

@@ -46,6 +46,15 @@ pub record IsReady (start : Tree) (change : Change) : Type 0 where
 abbrev pub IsStart : Tree → List Change → Type 0
 IsStart start changes = AllByRecursion (IsReady start) changes
 
+-- the old node is in the trash, and nothing stands at the path
+pub record IsMovedOut (tree : Tree) (change : Change) : Type 0 where
+  pub path : at tree change.path ≡ None
+  pub trash : is_some (at tree change.trash) ≡ change.old
+
+-- a tree from which all old nodes are moved
+abbrev pub AreMovedOut : Tree → List Change → Type 0
+AreMovedOut tree changes = AllByRecursion (IsMovedOut tree) changes
+
 -- ---- the new nodes
 
 -- a node of this kind, size and digest

@@ -3,4 +3,5 @@ pub mod Undo
 pub mod Calls
 pub mod Purge
 pub mod Steps
+pub mod Supplies
 pub mod Shares

@@ -1,11 +1,12 @@
 -- One change after another: what a step does at the change's two paths, and how far a loop has come. This project's own.
-use Rattle.std.specs.Prelude.{◌≡◌, ◌⊎◌, ℕ, zero, suc, ◌+◌, false, List, [], ◌∷◌, ◌++◌, Option}
+use Rattle.std.specs.Prelude.{◌≡◌, ◌⊎◌, ℕ, zero, suc, ◌+◌, false, List, [], ◌∷◌, ◌++◌, Option, Some}
 use Rattle.std.specs.Str.{bytes_eq}
+use Rattle.conda_path.specs.declared.values.Node.{Node}
 use Rattle.conda_device.specs.Fault.{Rose}
 use Rattle.conda_device.specs.Lanes.{IsInShare, Share}
 use Rattle.conda_device.specs.Tree.{Tree}
 use Rattle.conda_lane.specs.Calls.{Leads}
-use Rattle.conda_lane.specs.Changes.{at, is_named}
+use Rattle.conda_lane.specs.Changes.{IsNew, at, is_named}
 use Rattle.conda_lane.specs.Purge.{IsErased}
 use Rattle.conda_lane.specs.declared.change.Change.{Change}
 
@@ -28,6 +29,16 @@ pub record IsSame (before now : Tree) (change : Change) : Type 0 where
 pub record Goes (effect : Tree → Tree → Change → Type 0) (change : Change) (before now : Tree) : Type 0 where
   pub own : effect before now change
   pub others : (path : List ℕ) → bytes_eq path change.path ≡ false → bytes_eq path change.trash ≡ false → at now path ≡ at before path
+
+-- the node was put at the path
+pub record IsPutNode (node : Node) (before now : Tree) (change : Change) : Type 0 where
+  pub path : at now change.path ≡ Some node
+  pub trash : at now change.trash ≡ at before change.trash
+
+-- the path has what it may have in the end
+pub record IsPut (kept before now : Tree) (change : Change) : Type 0 where
+  pub path : IsNew kept change.path change.new (at now change.path)
+  pub trash : at now change.trash ≡ at before change.trash
 
 -- the effect was had on so many changes, of which the first has the number `from`, and the others are as they were
 abbrev pub Stage : Effect → Tree → Tree → ℕ → ℕ → List Change → Type 0
