@@ -72,9 +72,9 @@ abbrev pub chapter_lines : Chapter → List Line
 chapter_lines chapter = Header chapter.stamp ∷ chapter.body
 
 pub record IsChapter (chapter : Chapter) (block : Block) : Type 0 where
-  pub stamp : block.stamp ≡ chapter.stamp
-  pub body : list_any is_header chapter.body ≡ false
-  pub block : IsBlockOf chapter.body block
+  pub same_stamp : block.stamp ≡ chapter.stamp
+  pub no_header : list_any is_header chapter.body ≡ false
+  pub means : IsBlockOf chapter.body block
 
 abbrev pub AreChapters : List Chapter → List Block → Type 0
 AreChapters [] [] = Unit {0}

@@ -1,11 +1,10 @@
 -- What a line of a history says, as a function: the line between its blanks, then by its first characters.
-use Rattle.std.specs.Prelude.{ℕ, Bool, true, ◌||◌, ◌==◌, nat_eq, if◌then◌else◌, List, [], ◌∷◌, codes, drop, reverse, Option, Some, None, option_map, option_and_then, unwrap_or}
-use Rattle.std.specs.List.{starts_with}
+use Rattle.std.specs.Prelude.{ℕ, Bool, true, ◌||◌, ◌==◌, if◌then◌else◌, List, [], ◌∷◌, reverse, Option, Some, None, option_map, option_and_then, unwrap_or, is_some}
 use Rattle.std.specs.Str.{is_utf8}
-use Rattle.conda_base.specs.Signs.{carriage_return, colon, dash, hash, plus, space}
-use Rattle.conda_base.specs.Texts.{cut_last, ends_with}
+use Rattle.conda_base.specs.Signs.{carriage_return, colon, dash, equals, greater, hash, less, plus, space}
+use Rattle.conda_base.specs.Texts.{cut_last}
 use Rattle.conda_path.specs.Dists.{is_dist}
-use Rattle.conda_path.specs.Files.{before_end, cut_ending}
+use Rattle.conda_path.specs.Files.{cut_ending}
 use Rattle.conda_history.specs.declared.line.Line.{Line}
 use Rattle.conda_history.specs.declared.line.Line.TheVariants.{Nothing, Header, Removed, Added, Plain}
 use Rattle.conda_history.specs.Stamps.{stamp_of}
@@ -26,14 +25,28 @@ without_back also text = reverse (without_front also (reverse text))
 abbrev pub without_ends : ℕ → List ℕ → List ℕ
 without_ends also text = without_back also (without_front also text)
 
+-- ---- a character at an end
+
+-- what stands behind this character at the front
+abbrev pub behind_one : ℕ → List ℕ → Option (List ℕ)
+behind_one mark [] = None
+behind_one mark (b ∷ rest) = if b == mark then Some rest else None
+
+-- what stands before this character at the end
+abbrev pub before_one : ℕ → List ℕ → Option (List ℕ)
+before_one mark text = option_map reverse (behind_one mark (reverse text))
+
 -- ---- a header line
 
--- what stands behind the first mark, and before the last one
+-- what stands behind the mark `==>` at the front
 abbrev pub behind_mark : List ℕ → Option (List ℕ)
-behind_mark text = if starts_with nat_eq text (codes "==>") then Some (drop 3 text) else None
+behind_mark text =
+    option_and_then (behind_one greater) (option_and_then (behind_one equals) (behind_one equals text))
 
+-- what stands before the mark `<==` at the end
 abbrev pub before_mark : List ℕ → Option (List ℕ)
-before_mark text = before_end (codes "<==") text
+before_mark text =
+    option_and_then (before_one less) (option_and_then (before_one equals) (before_one equals text))
 
 -- what stands between the two marks
 abbrev pub middle_of : List ℕ → Option (List ℕ)
@@ -44,7 +57,7 @@ middle_of text = option_and_then before_mark (behind_mark text)
 -- what stands behind the last colon, if another one stands before it
 abbrev pub behind_colons : List ℕ → Option (List ℕ × List ℕ) → List ℕ
 behind_colons text None = text
-behind_colons text (Some halves) = if ends_with colon halves.0 then halves.1 else text
+behind_colons text (Some halves) = if is_some (before_one colon halves.0) then halves.1 else text
 
 -- what stands behind the channel and its `::`
 abbrev pub file_of : List ℕ → List ℕ

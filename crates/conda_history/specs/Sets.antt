@@ -89,6 +89,18 @@ is_chosen held b = if held then b else not b
 abbrev pub chosen : Bool → List (List ℕ) → List (List ℕ) → List (List ℕ)
 chosen held set dists = filter (λ dist. is_chosen held (holds set dist)) dists
 
--- the dists of the set that the block doesn't leave in it, unless it adds them
+-- the dists of the set that the block takes out, unless it adds them
 abbrev pub leaving : List (List ℕ) → Block → List (List ℕ)
-leaving set block = with_all [] (if block.whole then set else chosen true set block.removed)
+leaving set block = if block.whole then set else with_all [] (chosen true set block.removed)
+
+-- what is left of the set where a whole block takes all out
+abbrev pub staying : List (List ℕ) → Block → List (List ℕ)
+staying set block = if block.whole then [] else set
+
+-- an ascending list with a dist put in, if it is wanted
+abbrev pub put_if : Bool → List ℕ → List (List ℕ) → List (List ℕ)
+put_if wanted dist set = if wanted then insert_key (slice_cmp nat_cmp) set dist else set
+
+-- a list with a dist at its end, if it is wanted
+abbrev pub push_if : Bool → List ℕ → List (List ℕ) → List (List ℕ)
+push_if wanted dist rows = if wanted then rows ++ dist ∷ [] else rows

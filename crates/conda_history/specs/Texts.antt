@@ -1,6 +1,6 @@
 -- The text of a history, as this project writes it; its lines are those of conda's history.py.
-use Rattle.std.specs.Prelude.{ℕ, if◌then◌else◌, List, [], ◌∷◌, ◌++◌}
-use Rattle.std.specs.List.{flat_map}
+use Rattle.std.specs.Prelude.{ℕ, if◌then◌else◌, List, [], ◌∷◌, ◌++◌, IsUtf8}
+use Rattle.std.specs.List.{AllByRecursion, flat_map}
 use Rattle.conda_base.specs.Signs.{dash, newline, plus}
 use Rattle.conda_history.specs.declared.revision.Block.{Block}
 use Rattle.conda_history.specs.Stamps.{header_text}
@@ -28,3 +28,11 @@ block_text b = ended (header_text b.stamp) ++ dists_text b
 
 abbrev pub history_text : List Block → List ℕ
 history_text blocks = flat_map block_text blocks
+
+-- the dists that the text of a block shows
+abbrev pub shown : Block → List (List ℕ)
+shown b = if b.whole then b.added else b.removed ++ b.added
+
+-- each dist that the text shows is a text itself
+abbrev pub AreTexts : List Block → Type 0
+AreTexts blocks = AllByRecursion (λ block. AllByRecursion IsUtf8 (shown block)) blocks

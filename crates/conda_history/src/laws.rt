@@ -2,7 +2,7 @@ ghost use Rattle.std.specs.Prelude.{◌≡◌, ◌↔◌, Err, List, Ok, ℕ};
 ghost use Rattle.std.specs.List.{AllByRecursion};
 ghost use Rattle.conda_history.specs.Blocks.{IsBadAt, IsBlock, IsHistory};
 ghost use Rattle.conda_history.specs.Reading.{history_read};
-ghost use Rattle.conda_history.specs.Texts.{history_text};
+ghost use Rattle.conda_history.specs.Texts.{AreTexts, history_text};
 ghost use Rattle.conda_history.specs.declared.revision.Block.{Block};
 ghost use Rattle.conda_history.specs.declared.revision.History.{History};
 
@@ -24,9 +24,9 @@ pub fn grammar_laws()
     ending_laws();
 }
 
-/// The text of blocks with their lists in order is read as these blocks.
+/// The text of blocks with their lists in order, whose dists are texts, is read as these blocks.
 pub fn text_laws()
-    ensures { (blocks : List Block) → AllByRecursion IsBlock blocks →
+    ensures { (blocks : List Block) → AllByRecursion IsBlock blocks → AreTexts blocks →
         history_read (history_text blocks) ≡ Ok (record { blocks = blocks }) }
 {
     cut_laws();

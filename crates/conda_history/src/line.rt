@@ -1,9 +1,8 @@
-ghost use Rattle.std.specs.Prelude.{◌≡◌, IfOk};
+ghost use Rattle.std.specs.Prelude.{◌≡◌, IfOk, false, option_map};
 ghost use Rattle.conda_history.specs.Lines as lines;
+ghost use Rattle.conda_history.specs.declared.line.Line.TheVariants as says;
 
-use crate::pieces::{
-    behind_minus, behind_plus, dist_part, middle_of, says_nothing, text_of, without_ends,
-};
+use crate::pieces::{behind, dist_part, middle_of, says_nothing, text_of, without_ends};
 use crate::stamp::{Stamp, read_moment};
 use conda_path::{Dist, DistErr, dist_laws};
 use std::alloc::{AllocError, Global};
@@ -32,16 +31,30 @@ fn read_dist(alloc: Global, text: &str) -> Result<Option<Dist>, AllocError>
     }
 }
 
+/// What a text behind a `-` says.
+fn read_removed(alloc: Global, text: &str) -> Result<Option<Line>, AllocError>
+    ensures { IfOk result (λ line. line ≡ option_map says.Removed (lines.dist_of text.now)) }
+{
+    Ok(read_dist(alloc, text)?.map(Line::Removed))
+}
+
+/// What a text behind a `+` says.
+fn read_added(alloc: Global, text: &str) -> Result<Option<Line>, AllocError>
+    ensures { IfOk result (λ line. line ≡ option_map says.Added (lines.dist_of text.now)) }
+{
+    Ok(read_dist(alloc, text)?.map(Line::Added))
+}
+
 /// What a line says that is neither empty, nor a comment, nor a header line.
 fn read_entry(alloc: Global, text: &str) -> Result<Option<Line>, AllocError>
     requires { lines.says_nothing text.now ≡ false }
     ensures { IfOk result (λ line. line ≡ lines.entry_of text.now) }
 {
-    if let Some(rest) = behind_minus(text) {
-        return Ok(read_dist(alloc, rest)?.map(Line::Removed));
+    if let Some(rest) = behind(text, '-') {
+        return read_removed(alloc, rest);
     }
-    if let Some(rest) = behind_plus(text) {
-        return Ok(read_dist(alloc, rest)?.map(Line::Added));
+    if let Some(rest) = behind(text, '+') {
+        return read_added(alloc, rest);
     }
     Ok(read_dist(alloc, text)?.map(Line::Plain))
 }

@@ -1,7 +1,5 @@
-ghost use Rattle.std.specs.Prelude.{◌≡◌, ◌<◌, ◌∷◌, [], false, IfSome, IsUtf8, MatchOption, None};
+ghost use Rattle.std.specs.Prelude.{◌≡◌, ◌<◌, ◌∷◌, [], IfSome, IsUtf8, MatchOption, None};
 ghost use Rattle.std.specs.Prelude.{Some, length};
-ghost use Rattle.conda_base.specs.Signs.{dash, plus};
-ghost use Rattle.conda_base.specs.Texts.{begins_with, ends_with};
 ghost use Rattle.conda_history.specs.Lines as lines;
 ghost use Rattle.conda_history.specs.Lines.{without_front};
 ghost use Rattle.conda_history.specs.Says.{lines_of};
@@ -37,6 +35,24 @@ pub fn text_of(bytes: &[u8]) -> Option<&str>
     }
 }
 
+/// What stands behind a character at the front.
+pub fn behind(text: &str, mark: char) -> Option<&str>
+    requires { mark < 128 }
+    ensures { MatchOption result (lines.behind_one mark text.now ≡ None)
+        (λ rest. lines.behind_one mark text.now ≡ Some rest.now) }
+{
+    text.strip_prefix(mark)
+}
+
+/// What stands before a character at the end.
+fn before(text: &str, mark: char) -> Option<&str>
+    requires { mark < 128 }
+    ensures { MatchOption result (lines.before_one mark text.now ≡ None)
+        (λ front. lines.before_one mark text.now ≡ Some front.now) }
+{
+    text.strip_suffix(mark)
+}
+
 /// What stands behind a space or the other character at the front.
 fn behind_end(text: &str, also: char) -> Option<&str>
     requires { also < 128 }
@@ -44,9 +60,9 @@ fn behind_end(text: &str, also: char) -> Option<&str>
         (λ rest. (without_front also text.now ≡ without_front also rest.now)
         × (length rest.now < length text.now)) }
 {
-    match text.strip_prefix(' ') {
+    match behind(text, ' ') {
         Some(rest) => Some(rest),
-        None => text.strip_prefix(also),
+        None => behind(text, also),
     }
 }
 
@@ -54,12 +70,12 @@ fn behind_end(text: &str, also: char) -> Option<&str>
 fn before_end(text: &str, also: char) -> Option<&str>
     requires { also < 128 }
     ensures { MatchOption result (lines.without_back also text.now ≡ text.now)
-        (λ rest. (lines.without_back also text.now ≡ lines.without_back also rest.now)
-        × (length rest.now < length text.now)) }
+        (λ front. (lines.without_back also text.now ≡ lines.without_back also front.now)
+        × (length front.now < length text.now)) }
 {
-    match text.strip_suffix(' ') {
-        Some(rest) => Some(rest),
-        None => text.strip_suffix(also),
+    match before(text, ' ') {
+        Some(front) => Some(front),
+        None => before(text, also),
     }
 }
 
@@ -98,7 +114,9 @@ fn behind_mark(text: &str) -> Option<&str>
     ensures { MatchOption result (lines.behind_mark text.now ≡ None)
         (λ rest. lines.behind_mark text.now ≡ Some rest.now) }
 {
-    text.strip_prefix("==>")
+    let rest = behind(text, '=')?;
+    let rest = behind(rest, '=')?;
+    behind(rest, '>')
 }
 
 /// What stands before the last mark of a header line.
@@ -106,7 +124,9 @@ fn before_mark(text: &str) -> Option<&str>
     ensures { MatchOption result (lines.before_mark text.now ≡ None)
         (λ front. lines.before_mark text.now ≡ Some front.now) }
 {
-    text.strip_suffix("<==")
+    let front = before(text, '=')?;
+    let front = before(front, '=')?;
+    before(front, '<')
 }
 
 /// What stands between the two marks of a header line.
@@ -130,41 +150,16 @@ pub fn says_nothing(text: &[u8]) -> bool
     }
 }
 
-/// What stands behind a `-` at the front.
-pub fn behind_minus(text: &str) -> Option<&str>
-    ensures { MatchOption result (begins_with dash text.now ≡ false)
-        (λ rest. text.now ≡ dash ∷ rest.now) }
-{
-    text.strip_prefix('-')
-}
-
-/// What stands behind a `+` at the front.
-pub fn behind_plus(text: &str) -> Option<&str>
-    ensures { MatchOption result (begins_with plus text.now ≡ false)
-        (λ rest. text.now ≡ plus ∷ rest.now) }
-{
-    text.strip_prefix('+')
-}
-
-fn ends_with(c: u8, text: &[u8]) -> bool
-    ensures { result ≡ ends_with c text.now }
-{
-    text.last() == Some(&c)
-}
-
 /// What stands behind the last `::`. A text with another colon behind it is no dist, and neither is
 /// what is given of it.
 fn file_of(text: &str) -> &str
     ensures { result.now ≡ lines.file_of text.now }
 {
     match cut_last(text, b':') {
-        Some((front, behind)) => {
-            if ends_with(b':', front.as_bytes()) {
-                behind
-            } else {
-                text
-            }
-        }
+        Some((front, file)) => match before(front, ':') {
+            Some(_) => file,
+            None => text,
+        },
         None => text,
     }
 }

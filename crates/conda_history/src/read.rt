@@ -1,11 +1,12 @@
-ghost use Rattle.std.specs.Prelude.{◌≡◌, ◌+◌, ◌<◌, ◌^◌, IfOk, MatchResult, Ok, option_map};
+ghost use Rattle.std.specs.Prelude.{◌≡◌, IfOk};
 ghost use Rattle.std.specs.List.{AllByRecursion};
 ghost use Rattle.conda_base.specs.Reads.{Gives};
 ghost use Rattle.conda_history.specs.Blocks.{IsBlock};
 ghost use Rattle.conda_history.specs.Faults.{history_fault_of};
-ghost use Rattle.conda_history.specs.Reading as reading;
+ghost use Rattle.conda_history.specs.Reading as steps;
 ghost use Rattle.conda_history.specs.Reading.{blocks_read, history_read};
 
+use crate::laws::grammar_laws;
 use crate::line::{Line, read_line};
 use crate::names::NameSets;
 use crate::pieces::next_line;
@@ -30,7 +31,7 @@ pub struct Reading {
 
 /// The blocks with the open one at their end.
 fn closed(alloc: Global, reading: Reading) -> Result<Rows<Block>, AllocError>
-    ensures { IfOk result (λ blocks. blocks ≡ reading.closed reading) }
+    ensures { IfOk result (λ blocks. blocks ≡ steps.closed reading) }
 {
     let Reading { done, current } = reading;
     let mut done = done;
@@ -42,10 +43,10 @@ fn closed(alloc: Global, reading: Reading) -> Result<Rows<Block>, AllocError>
 }
 
 /// A block with one more line that names a dist.
-fn with_named(open: Open, line: Line) -> Result<Open, AllocError> 
-    ensures { IfOk result (λ made. made ≡ reading.open_with open line) }
+fn with_named(current: Open, line: Line) -> Result<Open, AllocError> 
+    ensures { IfOk result (λ made. made ≡ steps.open_with current line) }
 {
-    let Open { stamp, names } = open;
+    let Open { stamp, names } = current;
     let mut names = names;
     match line {
         Line::Removed(dist) => names.remove(dist)?,
@@ -58,7 +59,7 @@ fn with_named(open: Open, line: Line) -> Result<Open, AllocError>
 
 /// The blocks with one more line that names a dist; None where no header stands before it.
 fn with_entry(reading: Reading, line: Line) -> Result<Option<Reading>, AllocError>
-    ensures { IfOk result (λ made. made ≡ reading.with_named reading.done line reading.current) }
+    ensures { IfOk result (λ made. made ≡ steps.with_named reading.done line reading.current) }
 {
     let Reading { done, current } = reading;
     match current {
@@ -75,7 +76,7 @@ fn with_entry(reading: Reading, line: Line) -> Result<Option<Reading>, AllocErro
 
 /// The blocks with a new one, which is open.
 fn with_header(alloc: Global, reading: Reading, stamp: Stamp) -> Result<Reading, AllocError>
-    ensures { IfOk result (λ made. made ≡ reading.begun reading stamp) }
+    ensures { IfOk result (λ made. made ≡ steps.begun reading stamp) }
 {
     let done = closed(alloc, reading)?;
     Ok(Reading {
@@ -89,7 +90,7 @@ fn with_header(alloc: Global, reading: Reading, stamp: Stamp) -> Result<Reading,
 
 /// The blocks with what one more line says.
 fn step(alloc: Global, reading: Reading, line: Line) -> Result<Option<Reading>, AllocError>
-    ensures { IfOk result (λ made. made ≡ reading.step reading line) }
+    ensures { IfOk result (λ made. made ≡ steps.step reading line) }
 {
     match line {
         Line::Nothing => Ok(Some(reading)),
@@ -107,7 +108,7 @@ fn with_line(
     reading: Reading,
     raw: &[u8],
 ) -> Result<Reading, HistoryErr>
-    ensures { Gives history_fault_of result (reading.line_read number reading raw.now) }
+    ensures { Gives history_fault_of result (steps.line_read number reading raw.now) }
 {
     let line = match read_line(alloc, raw) {
         Ok(Some(line)) => line,
@@ -122,7 +123,7 @@ fn with_line(
 }
 
 fn begun(alloc: Global) -> Reading
-    ensures { result ≡ reading.start }
+    ensures { result ≡ steps.start }
 {
     Reading {
         done: Rows::new(alloc),
@@ -132,7 +133,7 @@ fn begun(alloc: Global) -> Reading
 
 /// What the lines of a text make of no blocks.
 fn lines_of(alloc: Global, bytes: &[u8]) -> Result<Reading, HistoryErr>
-    ensures { Gives history_fault_of result (reading.text_read bytes.now) }
+    ensures { Gives history_fault_of result (steps.text_read bytes.now) }
 {
     let mut reading = begun(alloc);
     let mut rest = bytes;
@@ -177,6 +178,7 @@ impl History {
         ensures exact { Gives history_fault_of result (history_read bytes.now) }
         ensures good { IfOk result (λ history. AllByRecursion IsBlock history.blocks) }
     {
+        grammar_laws();
         match blocks_of(alloc, bytes) {
             Ok(blocks) => Ok(History { blocks }),
             Err(e) => Err(e),

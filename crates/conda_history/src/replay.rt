@@ -9,6 +9,7 @@ use conda_base::{Copied, Rows};
 use conda_path::Dist;
 use std::alloc::{AllocError, Global};
 use std::collections::BTreeSet;
+use std::mem;
 
 /// Takes the dists out of the set.
 fn take_out(set: &mut BTreeSet<Dist>, dists: &[Dist])
@@ -84,6 +85,16 @@ fn is_chosen(held: bool, holds: bool) -> bool
     if held { holds } else { !holds }
 }
 
+/// Puts a dist into the set, if it is wanted.
+fn put_if(set: &mut BTreeSet<Dist>, dist: &Dist, wanted: bool) -> Result<(), AllocError>
+    ensures { OnOk result (set.new.keys ≡ sets.put_if wanted dist.now set.old.keys) }
+{
+    if wanted {
+        set.insert(dist.copy()?)?;
+    }
+    Ok(())
+}
+
 /// The dists that the set holds, or those that it doesn't hold, in order.
 fn chosen(
     alloc: Global,
@@ -91,36 +102,40 @@ fn chosen(
     dists: &[Dist],
     held: bool,
 ) -> Result<BTreeSet<Dist>, AllocError>
-    ensures { IfOk result (λ made. made.keys ≡ with_all [] (sets.chosen held set.now.keys dists.now)) }
+    ensures { IfOk result (λ made.
+        made.keys ≡ with_all [] (sets.chosen held set.now.keys dists.now)) }
 {
     let mut made = BTreeSet::new(alloc);
     for dist in dists {
-        if is_chosen(held, holds(set, dist)) {
-            made.insert(dist.copy()?)?;
-        }
+        let wanted = is_chosen(held, holds(set, dist));
+        put_if(&mut made, dist, wanted)?;
     }
     Ok(made)
 }
 
-/// The dists of the set that a block may take out.
-fn leaving(alloc: Global, set: &BTreeSet<Dist>, block: &Block) -> Result<BTreeSet<Dist>, AllocError>
-    ensures { IfOk result (λ made. made.keys ≡ sets.leaving set.now.keys block.now) }
+/// The dists of the set that a block may take out; a whole block takes them out at once.
+fn leaving(
+    alloc: Global,
+    set: &mut BTreeSet<Dist>,
+    block: &Block,
+) -> Result<BTreeSet<Dist>, AllocError>
+    ensures left { IfOk result (λ made. made.keys ≡ sets.leaving set.old.keys block.now) }
+    ensures set { OnOk result (set.new.keys ≡ sets.staying set.old.keys block.now) }
 {
     if block.whole {
-        return copied(alloc, set);
+        return Ok(mem::replace(set, BTreeSet::new(alloc)));
     }
     chosen(alloc, set, block.removed.as_slice(), true)
 }
 
-/// An equal set.
-fn copied(alloc: Global, set: &BTreeSet<Dist>) -> Result<BTreeSet<Dist>, AllocError>
-    ensures { IfOk result (λ made. made.keys ≡ with_all [] set.now.keys) }
+/// Appends a dist, if it is wanted.
+fn push_if(rows: &mut Rows<Dist>, dist: Dist, wanted: bool) -> Result<(), AllocError>
+    ensures { OnOk result (rows.new ≡ sets.push_if wanted dist rows.old) }
 {
-    let mut made = BTreeSet::new(alloc);
-    for dist in set {
-        made.insert(dist.copy()?)?;
+    if wanted {
+        rows.push(dist)?;
     }
-    Ok(made)
+    Ok(())
 }
 
 /// The dists that the set doesn't hold, in their order.
@@ -133,17 +148,19 @@ fn missing(
 {
     let mut rows = Rows::new(alloc);
     for dist in dists {
-        if !holds(set, &dist) {
-            rows.push(dist)?;
-        }
+        let wanted = !holds(set, &dist);
+        push_if(&mut rows, dist, wanted)?;
     }
     Ok(rows)
 }
 
 /// Replays one block on the set, and tells what that changes in it.
 fn change(alloc: Global, set: &mut BTreeSet<Dist>, block: &Block) -> Result<Block, AllocError>
+    requires { Ascending set.old.keys }
     ensures set { OnOk result (set.new.keys ≡ set_with set.old.keys block.now) }
-    ensures change { IfOk result (λ made. made ≡ change_of block.now.stamp set.old.keys set.new.keys) }
+    ensures change { IfOk result (λ made. made
+        ≡ change_of block.now.stamp set.old.keys (set_with set.old.keys block.now)) }
+    ensures ascending { OnOk result (Ascending set.new.keys) }
 {
     let joining = chosen(alloc, set, block.added.as_slice(), false)?;
     let leaving = leaving(alloc, set, block)?;
@@ -159,6 +176,7 @@ fn change(alloc: Global, set: &mut BTreeSet<Dist>, block: &Block) -> Result<Bloc
 }
 
 /// What each of the blocks changes.
+#[tactic(auto, unfolding(crate::specs::Sets::changes_after))]
 fn changed(alloc: Global, blocks: &[Block]) -> Result<Rows<Block>, AllocError>
     ensures { IfOk result (λ made. made ≡ changes_of blocks.now) }
 {

@@ -1,6 +1,5 @@
-ghost use Rattle.std.specs.Prelude.{◌≡◌, ◌++◌, ◌∷◌, [], IfErr, IfOk, List, Ok, OnOk, ℕ};
+ghost use Rattle.std.specs.Prelude.{◌≡◌, ◌++◌, IfErr, IfOk, IsUtf8, Ok, OnOk};
 ghost use Rattle.std.specs.List.{AllByRecursion, flat_map};
-ghost use Rattle.conda_base.specs.Signs.{dash, plus};
 ghost use Rattle.conda_history.specs.Blocks.{IsBlock};
 ghost use Rattle.conda_history.specs.Reading.{history_read};
 ghost use Rattle.conda_history.specs.Stamps.{header_text};
@@ -26,7 +25,9 @@ fn push_header(text: &mut Vec<u8>, stamp: Stamp) -> Result<(), AllocError>
 
 /// Appends a line of a dist behind a sign, if there is one.
 fn push_dist(text: &mut Vec<u8>, sign: &[u8], dist: &Dist) -> Result<(), AllocError>
-    ensures { OnOk result (text.new.items ≡ text.old.items ++ (sign.now ++ texts.ended dist.now)) }
+    ensures text { OnOk result (text.new.items
+        ≡ text.old.items ++ (sign.now ++ texts.ended dist.now)) }
+    ensures utf8 { OnOk result (IsUtf8 dist.now) }
 {
     text.extend_from_slice(sign)?;
     text.extend_from_slice(dist.text().as_bytes())?;
@@ -36,8 +37,9 @@ fn push_dist(text: &mut Vec<u8>, sign: &[u8], dist: &Dist) -> Result<(), AllocEr
 
 /// Appends a line for each of the dists.
 fn push_dists(text: &mut Vec<u8>, sign: &[u8], dists: &[Dist]) -> Result<(), AllocError>
-    ensures { OnOk result (text.new.items
+    ensures text { OnOk result (text.new.items
         ≡ text.old.items ++ flat_map (λ dist. sign.now ++ texts.ended dist) dists.now) }
+    ensures utf8 { OnOk result (AllByRecursion IsUtf8 dists.now) }
 {
     for dist in dists {
         push_dist(text, sign, dist)?;
@@ -47,7 +49,8 @@ fn push_dists(text: &mut Vec<u8>, sign: &[u8], dists: &[Dist]) -> Result<(), All
 
 /// Appends the text of a block.
 fn push_block(text: &mut Vec<u8>, block: &Block) -> Result<(), AllocError>
-    ensures { OnOk result (text.new.items ≡ text.old.items ++ block_text block.now) }
+    ensures text { OnOk result (text.new.items ≡ text.old.items ++ block_text block.now) }
+    ensures utf8 { OnOk result (AllByRecursion IsUtf8 (texts.shown block.now)) }
 {
     push_header(text, block.stamp)?;
     if block.whole {
@@ -59,7 +62,8 @@ fn push_block(text: &mut Vec<u8>, block: &Block) -> Result<(), AllocError>
 
 /// The text of blocks.
 fn text_of(alloc: Global, blocks: &[Block]) -> Result<Vec<u8>, AllocError>
-    ensures { IfOk result (λ text. text.items ≡ history_text blocks.now) }
+    ensures text { IfOk result (λ text. text.items ≡ history_text blocks.now) }
+    ensures utf8 { OnOk result (texts.AreTexts blocks.now) }
 {
     let mut text = Vec::new(alloc);
     for block in blocks {
