@@ -33,11 +33,11 @@ or_true false = refl
 
 held_in : (d : List ℕ) (xs : List (List ℕ)) → holds xs d ≡ true → IsIn d xs
 held_in d [] h = absurd (true≢false (sym h))
-held_in d (x ∷ xs) h = by (or_cases (is_text d x) (holds xs d) h)
+held_in d (x ∷ xs) h = by (or_cases (is_text d x) (holds xs d) h) (held_in d xs)
   where
-    by : (is_text d x ≡ true) ⊎ (holds xs d ≡ true) → (d ≡ x) ⊎ IsIn d xs
-    by (inl e) = inl ((bytes_decides d x).0 e)
-    by (inr e) = inr (held_in d xs e)
+    by : (is_text d x ≡ true) ⊎ (holds xs d ≡ true) → (holds xs d ≡ true → IsIn d xs) → (d ≡ x) ⊎ IsIn d xs
+    by (inl e) f = inl ((bytes_decides d x).0 e)
+    by (inr e) f = inr (f e)
 
 in_held : (d : List ℕ) (xs : List (List ℕ)) → IsIn d xs → holds xs d ≡ true
 in_held d [] i = absurd i
@@ -128,6 +128,11 @@ filter_more p (x ∷ xs) d = by (p x) (p d) (filter_more p xs d)
     by true false e = ap (λ ys. x ∷ ys) e
     by false w e = e
 
+pub missing_more : (set ys : List (List ℕ)) (d : List ℕ) (rows now : List (List ℕ)) (b : Bool) → now ≡ push_if (not b) d rows
+    → rows ≡ missing_from set ys → b ≡ holds set d → now ≡ missing_from set (ys ++ d ∷ [])
+missing_more set ys d rows now b e f g =
+    e ∙ ap (push_if (not b) d) f ∙ ap (λ v. push_if (not v) d (missing_from set ys)) g ∙ filter_more (λ x. not (holds set x)) ys d
+
 -- ---- one block
 
 pub staying_with : (set : List (List ℕ)) (b : Block) → set_with (staying set b) b ≡ set_with set b
@@ -197,3 +202,21 @@ leaves set b a =
     (λ d i. let r = in_filter p d (leaving set b) i in filter_in p d set (in_leaving d set b r.0) r.1)
     (λ d i. let r = in_filter p d set i in
         filter_in p d (leaving set b) (leaving_in d set b r.0 (λ k. not_held d (set_with set b) r.1 (with_in d b.added (kept_by b set) (inr k)))) r.1)
+
+pub step_is : (set set1 set2 : List (List ℕ)) (b : Block) → set1 ≡ staying set b → set2 ≡ set_with set1 b → set2 ≡ set_with set b
+step_is set set1 set2 b e f = f ∙ ap (λ s. set_with s b) e ∙ staying_with set b
+
+pub stays_ascending : (set now : List (List ℕ)) (b : Block) → Ascending set → now ≡ set_with set b → Ascending now
+stays_ascending set now b a e = subst Ascending (sym e) (step_ascends set b a)
+
+-- what a block changes, by what leaves and what joins
+pub changed_as : (set set1 set2 left removed joining added named : List (List ℕ)) (b : Block) → Ascending set
+    → set1 ≡ staying set b → set2 ≡ set_with set1 b → left ≡ leaving set b → removed ≡ missing_from set2 left
+    → named ≡ b.added → joining ≡ with_all [] (chosen false set named) → added ≡ joining
+    → (let made : Block = record { stamp = b.stamp; removed = removed; added = added; whole = false } in made) ≡ change_of b.stamp set (set_with set b)
+changed_as set set1 set2 left removed joining added named b a e f g h k j m =
+    let went : removed ≡ missing_from (set_with set b) set =
+    h ∙ ap (λ s. missing_from s left) (step_is set set1 set2 b e f) ∙ ap (missing_from (set_with set b)) g ∙ leaves set b a in
+    let came : added ≡ missing_from set (set_with set b) =
+    m ∙ j ∙ ap (λ ds. with_all [] (chosen false set ds)) k ∙ joins set b a in
+    λ i. record { stamp = b.stamp; removed = went i; added = came i; whole = false }

@@ -10,3 +10,4 @@ pub mod SetLemmas
 pub mod ChangeLemmas
 pub mod TurnLemmas
 pub mod WrittenLemmas
+pub mod PushLemmas

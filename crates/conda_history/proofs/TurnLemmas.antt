@@ -3,10 +3,12 @@ use Rattle.std.proofs.Common.{◌≡◌, ℕ, ◌+◌, List, [], ◌∷◌, refl
 use Rattle.std.specs.Prelude.{Result, Ok, Err, IfSome, Some, None}
 use Rattle.conda_base.specs.Reads.{Gives, Read, ◌>>=◌}
 use Rattle.conda_history.specs.declared.read.Reading.{Reading}
+use Rattle.conda_history.specs.declared.revision.Block.{Block}
+use Rattle.conda_history.specs.declared.revision.History.{History}
 use Rattle.conda_history.specs.declared.revision.HistoryErr.{HistoryErr}
 use Rattle.conda_history.specs.declared.revision.HistoryErr.TheVariants.{BadHistory, Memory}
 use Rattle.conda_history.specs.Faults.{history_fault_of}
-use Rattle.conda_history.specs.Reading.{line_read, lines_read}
+use Rattle.conda_history.specs.Reading.{blocks_read, history_read, line_read, lines_read}
 use Rattle.conda_history.specs.Says.{lines_of}
 
 -- what follows a line that was read
@@ -31,3 +33,7 @@ pub ends : (result : Result Reading HistoryErr) (k : ℕ) (r : Reading) (text : 
     → lines_read k r (lines_of text) ≡ all → Gives history_fault_of result (line_read k r text) → Gives history_fault_of result all
 ends result k r text all cut whole h =
     subst (Gives history_fault_of result) (sym (same_read (line_read k r text)) ∙ sym (ap (lines_read k r) cut) ∙ whole) h
+
+-- blocks as a history
+pub history_ok : (bytes : List ℕ) (blocks : List Block) → blocks_read bytes ≡ Ok blocks → history_read bytes ≡ Ok (record { blocks = blocks })
+history_ok bytes blocks h = ap (λ b. b >>= (λ bs. (let m : Read History ℕ = Ok (record { blocks = bs }) in m))) h

@@ -1,5 +1,5 @@
 -- The text of blocks is read as these blocks.
-use Rattle.std.proofs.Common.{◌≡◌, ◌≢◌, ◌⊎◌, inl, inr, ℕ, ◌+◌, ◌<◌, ◌≤◌, ◌/◌, ◌%◌, Bool, true, false, ◌||◌, ◌&&◌, not, cond, eqb, List, [], ◌∷◌, ◌++◌, map, reverse, append_assoc, Option, Some, None, refl, sym, ap, ◌∙◌, subst, arith}
+use Rattle.std.proofs.Common.{◌≡◌, ◌≢◌, ◌⊎◌, inl, inr, ℕ, ◌+◌, ◌<◌, ◌≤◌, ◌/◌, ◌%◌, Bool, true, false, ◌||◌, ◌&&◌, not, cond, eqb, List, [], ◌∷◌, ◌++◌, map, reverse, append_assoc, Option, Some, None, refl, sym, ap, ◌∙◌, subst, arith, lit<, get_or, zero, suc}
 use Rattle.std.specs.Prelude.{IsUtf8, Ok, Err, codes, option_and_then}
 use Rattle.std.specs.List.{All, AllByRecursion, flat_map, list_any, slice_split}
 use Rattle.std.proofs.lemmas.Bool.{eqb-true, true≢false}
@@ -7,7 +7,7 @@ use Rattle.std.proofs.lemmas.Grind.{flat_map-append}
 use Rattle.std.proofs.lemmas.List.{append-nil, reverse-append}
 use Rattle.std.proofs.lemmas.List.Elements.{All-from_recursion}
 use Rattle.std.proofs.lemmas.List.Splits.{slice_split_at}
-use Rattle.std.proofs.lemmas.Str.{IsUtf8-append, IsUtf8-from_ascii, IsUtf8-from_is_utf8, IsUtf8-nil}
+use Rattle.std.proofs.lemmas.Str.{IsUtf8-append, IsUtf8-from_ascii, IsUtf8-nil}
 use Rattle.std.specs.List.Sorted.{IsStrictlySortedBy}
 use Rattle.conda_base.specs.Texts.{Ascending, begins_with, is_byte, is_empty}
 use Rattle.conda_path.specs.Dists.{IsDist, is_bad_byte, is_bad_front, begins_badly}
@@ -119,6 +119,14 @@ unsigned d r = record {
 digits_ascii : (n : ℕ) → n ≤ 79 → 48 + n < 128
 digits_ascii n h = omega arith
 
+ascii_at : (text : List ℕ) → AllByRecursion (λ b. b < 128) text → (i : ℕ) → get_or text i 0 < 128
+ascii_at [] h i = lit< tt
+ascii_at (x ∷ xs) h zero = h.0
+ascii_at (x ∷ xs) h (suc i) = ascii_at xs h.1 i
+
+ascii_utf8 : (text : List ℕ) → AllByRecursion (λ b. b < 128) text → IsUtf8 text
+ascii_utf8 text h = IsUtf8-from_ascii text (ascii_at text h)
+
 header_utf8 : (s : Stamp) → Exists s → IsUtf8 (header_text s)
 header_utf8 s e =
     let h = short_of s e in
@@ -131,12 +139,12 @@ header_utf8 s e =
     let ht : s.hour / 10 ≤ 79 = omega (arith, h.hour) in
     let nt : s.minute / 10 ≤ 79 = omega (arith, h.minute) in
     let st : s.second / 10 ≤ 79 = omega (arith, h.second) in
-    IsUtf8-from_ascii (header_text s) (All-from_recursion (λ b. b < 128) (header_text s)
+    ascii_utf8 (header_text s)
     (omega arith, (omega arith, (omega arith, (omega arith,
     (digits_ascii _ yy, (digits_ascii _ yc, (digits_ascii _ yt, (digits_ascii _ yo, (omega arith,
     (digits_ascii _ mt, (omega arith, (omega arith, (digits_ascii _ dt, (omega arith, (omega arith,
     (digits_ascii _ ht, (omega arith, (omega arith, (digits_ascii _ nt, (omega arith, (omega arith, (digits_ascii _ st, (omega arith,
-    (omega arith, (omega arith, (omega arith, (omega arith, tt))))))))))))))))))))))))))))
+    (omega arith, (omega arith, (omega arith, (omega arith, tt)))))))))))))))))))))))))))
 
 header_bare : (s : Stamp) → IsBare (header_text s)
 header_bare s = record {
@@ -162,13 +170,13 @@ shown_means (Header s) h = record {
   says = record { front = 32 ∷ []; back = 32 ∷ []; whole = refl; spaces_front = refl; spaces_back = refl; moment = h };
 }
 shown_means (Removed d) h = record {
-  utf8 = IsUtf8-append (45 ∷ []) d (IsUtf8-from_is_utf8 (45 ∷ []) refl) h.1;
+  utf8 = IsUtf8-append (45 ∷ []) d (ascii_utf8 (45 ∷ []) (lit< tt, tt)) h.1;
   text = 45 ∷ d;
   stripped = record { front = []; back = []; whole = whole_line (45 ∷ d); blank_front = refl; blank_back = refl; bare = full_bare (45 ∷ d) (refl, dist_full d h.0.bytes) };
   says = (d, refl, names_itself d h.0);
 }
 shown_means (Added d) h = record {
-  utf8 = IsUtf8-append (43 ∷ []) d (IsUtf8-from_is_utf8 (43 ∷ []) refl) h.1;
+  utf8 = IsUtf8-append (43 ∷ []) d (ascii_utf8 (43 ∷ []) (lit< tt, tt)) h.1;
   text = 43 ∷ d;
   stripped = record { front = []; back = []; whole = whole_line (43 ∷ d); blank_front = refl; blank_back = refl; bare = full_bare (43 ∷ d) (refl, dist_full d h.0.bytes) };
   says = (d, refl, names_itself d h.0);

@@ -150,6 +150,7 @@ fn lines_of(alloc: Global, bytes: &[u8]) -> Result<Reading, HistoryErr>
 }
 
 /// The blocks of a text.
+#[tactic(auto, unfolding(crate::specs::Reading::blocks_read))]
 fn blocks_of(alloc: Global, bytes: &[u8]) -> Result<Rows<Block>, HistoryErr>
     ensures { Gives history_fault_of result (blocks_read bytes.now) }
 {

@@ -1,4 +1,4 @@
-ghost use Rattle.std.specs.Prelude.{◌≡◌, ◌↔◌, ◌≤◌, ◌<◌, IsTrue, nat_eq, pos};
+ghost use Rattle.std.specs.Prelude.{◌≡◌, ◌↔◌, ◌≤◌, ◌<◌, ◌++◌, ◌∷◌, IsTrue, OnOk, nat_eq, pos, string_bytes};
 ghost use Rattle.std.specs.Cmp.Lexicographic.{pointwise};
 ghost use Rattle.jiff_core.specs.Calendar.{IsDate};
 ghost use Rattle.jiff_core.specs.Time.{IsTime};
@@ -51,6 +51,60 @@ impl Stamp {
             second: time.second,
         }
     }
+
+    /// Appends the moment as `YYYY-MM-DD HH:MM:SS`. Of a stamp that doesn't exist it may append other
+    /// characters than digits.
+    pub fn push_text(self, text: &mut String) -> Result<(), AllocError>
+        ensures { OnOk result (string_bytes text.new
+            ≡ string_bytes text.old ++ stamps.moment_text self) }
+    {
+        push_date(text, self)?;
+        text.push(' ')?;
+        push_time(text, self)?;
+        Ok(())
+    }
+}
+
+/// Appends the date of a moment.
+fn push_date(text: &mut String, stamp: Stamp) -> Result<(), AllocError>
+    ensures { OnOk result (string_bytes text.new
+        ≡ string_bytes text.old ++ stamps.date_text stamp) }
+{
+    push_two(text, stamp.year / 100)?;
+    push_two(text, stamp.year % 100)?;
+    push_next(text, '-', stamp.month)?;
+    push_next(text, '-', stamp.day)
+}
+
+/// Appends the time of day of a moment.
+fn push_time(text: &mut String, stamp: Stamp) -> Result<(), AllocError>
+    ensures { OnOk result (string_bytes text.new
+        ≡ string_bytes text.old ++ stamps.time_text stamp) }
+{
+    push_two(text, u16::from(stamp.hour))?;
+    push_next(text, ':', stamp.minute)?;
+    push_next(text, ':', stamp.second)
+}
+
+/// Appends a mark and a number behind it.
+fn push_next(text: &mut String, mark: char, number: u8) -> Result<(), AllocError>
+    requires { mark < 128 }
+    ensures { OnOk result (string_bytes text.new
+        ≡ string_bytes text.old ++ mark ∷ stamps.two_digits number) }
+{
+    text.push(mark)?;
+    push_two(text, u16::from(number))
+}
+
+/// Appends a number below 100 in two digits.
+fn push_two(text: &mut String, number: u16) -> Result<(), AllocError>
+    requires { number < 800 }
+    ensures { OnOk result (string_bytes text.new
+        ≡ string_bytes text.old ++ stamps.two_digits number) }
+{
+    text.push(char::from(b'0' + (number / 10) as u8))?;
+    text.push(char::from(b'0' + (number % 10) as u8))?;
+    Ok(())
 }
 
 /// The digit at an offset, or 0 where none stands there.

@@ -54,10 +54,12 @@ fn push_block(text: &mut Vec<u8>, block: &Block) -> Result<(), AllocError>
 {
     push_header(text, block.stamp)?;
     if block.whole {
-        return push_dists(text, b"", block.added.as_slice());
+        push_dists(text, b"", block.added.as_slice())?;
+        return Ok(());
     }
     push_dists(text, b"-", block.removed.as_slice())?;
-    push_dists(text, b"+", block.added.as_slice())
+    push_dists(text, b"+", block.added.as_slice())?;
+    Ok(())
 }
 
 /// The text of blocks.

@@ -17,5 +17,5 @@ loop-line-preserved c = record {
 
 pub returns : goal.returns
 returns c =
-    ends c.with_line.result c.loop-line.number c.loop-line.reading c.loop-line.rest.now _ c.in_default.ensures.line
-    c.loop-line.invariant.answer c.with_line.ensures
+    ends c.with_line-2.result c.loop-line.number c.loop-line.reading c.loop-line.rest.now _ c.in_default.ensures.line
+    c.loop-line.invariant.answer c.with_line-2.ensures
