@@ -1,11 +1,11 @@
 -- What the lines of a block name, as the reader keeps it, and what they mean together.
-use Rattle.std.proofs.Common.{◌≡◌, ◌≢◌, ◌↔◌, ◌⊎◌, inl, inr, ℕ, Bool, true, false, ◌||◌, ◌&&◌, not, cond, List, [], ◌∷◌, ◌++◌, Option, Some, None, Ordering, refl, sym, ap, ◌∙◌, subst}
+use Rattle.std.proofs.Common.{◌≡◌, ◌≢◌, ◌↔◌, ◌⊎◌, inl, inr, ℕ, Bool, true, false, ◌||◌, ◌&&◌, not, cond, List, [], ◌∷◌, ◌++◌, Option, Some, Ordering, refl, sym, ap, ◌∙◌, subst}
 use Rattle.std.specs.declared.cmp.Ordering.TheVariants.{Less, Equal, Greater}
 use Rattle.std.specs.Ordering.{match_ordering}
 use Rattle.std.specs.BTreeSet.{insert_key}
 use Rattle.std.specs.List.{AllByRecursion, list_any}
 use Rattle.std.proofs.lemmas.Bool.{true≢false}
-use Rattle.conda_base.specs.Texts.{Ascending, is_empty}
+use Rattle.conda_base.specs.Texts.{is_empty}
 use Rattle.conda_history.specs.declared.line.Line.{Line}
 use Rattle.conda_history.specs.declared.line.Line.TheVariants.{Nothing, Header, Removed, Added, Plain}
 use Rattle.conda_history.specs.declared.revision.Block.{Block}
@@ -152,8 +152,11 @@ in_last v d n (l ∷ ls) (inl m) = by m.0 m.2 (in_last v d (named n l) ls)
     by [] e f =
         let same : l ≡ line_that v d = cc in
         let rest : m.1 ≡ ls = cc in
-        f (inr (stays_line v d n l (inl same), unsigned_other (signed_dist (line_that v d)) d ls (signed_that v d)
-        (subst (λ xs. AllByRecursion (λ k. signed_dist k ≢ signed_dist (line_that v d)) xs) rest m.3)))
+        f (inr (
+          stays_line v d n l (inl same),
+          unsigned_other (signed_dist (line_that v d)) d ls (signed_that v d)
+              (subst (λ xs. AllByRecursion (λ k. signed_dist k ≢ signed_dist (line_that v d)) xs) rest m.3),
+        ))
     by (b ∷ before) e f =
         let rest : ls ≡ before ++ line_that v d ∷ m.1 = cc in
         f (inl (before, m.1, rest, m.3))

@@ -1,20 +1,17 @@
 -- What a block changes in the set, by the dists that it names.
-use Rattle.std.proofs.Common.{◌≡◌, ◌≢◌, ◌↔◌, ◌⊎◌, inl, inr, ℕ, ◌+◌, ◌<◌, Bool, true, false, ◌||◌, not, cond, List, [], ◌∷◌, ◌++◌, length, drop, get_or, refl, sym, ap, ◌∙◌, subst}
+use Rattle.std.proofs.Common.{◌≡◌, ◌⊎◌, inl, inr, ℕ, ◌+◌, ◌<◌, Bool, true, false, ◌||◌, not, cond, List, [], ◌∷◌, ◌++◌, length, drop, get_or, refl, sym, ap, ◌∙◌, subst}
 use Rattle.std.specs.Prelude.{filter}
 use Rattle.std.specs.List.{AllByRecursion, list_any}
-use Rattle.std.specs.Ordering.{nat_cmp}
 use Rattle.std.specs.declared.cmp.Ordering.{Ordering}
 use Rattle.std.specs.BTreeMap.{is_at}
-use Rattle.std.specs.BTreeSet.{insert_key}
-use Rattle.std.specs.Cmp.Lexicographic.{bytes_decides, slice_cmp, texts_ties}
+use Rattle.std.specs.Cmp.Lexicographic.{bytes_decides, texts_ties}
 use Rattle.std.specs.List.Sorted.{IsStrictlySortedBy}
 use Rattle.std.proofs.lemmas.Bool.{true≢false}
 use Rattle.std.proofs.lemmas.List.{drop_more}
 use Rattle.conda_base.specs.Texts.{Ascending, is_text}
 use Rattle.conda_history.specs.declared.revision.Block.{Block}
-use Rattle.conda_history.specs.declared.stamp.Stamp.{Stamp}
 use Rattle.conda_history.specs.Sets.{IsIn, change_of, chosen, holds, is_chosen, kept_by, leaving, missing_from, push_if, put_if, set_with, staying, with_all}
-use Rattle.conda_history.proofs.SetLemmas.{C, Sorted, all_of, ascend_sorted, decided, empty_sorted, in_kept, in_with, kept_in, same_members, sorted_ascend, sorted_step, sorted_with, with_in}
+use Rattle.conda_history.proofs.SetLemmas.{C, Sorted, ascend_sorted, decided, empty_sorted, in_kept, in_with, kept_in, same_members, sorted_ascend, sorted_step, sorted_with, with_in}
 
 -- ---- a test of members
 
@@ -201,7 +198,7 @@ leaves set b a =
     (sorted_filter p (leaving set b) (sorted_leaving set b s)) (sorted_filter p set s)
     (λ d i. let r = in_filter p d (leaving set b) i in filter_in p d set (in_leaving d set b r.0) r.1)
     (λ d i. let r = in_filter p d set i in
-        filter_in p d (leaving set b) (leaving_in d set b r.0 (λ k. not_held d (set_with set b) r.1 (with_in d b.added (kept_by b set) (inr k)))) r.1)
+    filter_in p d (leaving set b) (leaving_in d set b r.0 (λ k. not_held d (set_with set b) r.1 (with_in d b.added (kept_by b set) (inr k)))) r.1)
 
 pub step_is : (set set1 set2 : List (List ℕ)) (b : Block) → set1 ≡ staying set b → set2 ≡ set_with set1 b → set2 ≡ set_with set b
 step_is set set1 set2 b e f = f ∙ ap (λ s. set_with s b) e ∙ staying_with set b

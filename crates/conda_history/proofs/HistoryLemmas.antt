@@ -1,6 +1,6 @@
 -- What bytes are read as is what they are a history of, and a line that is refused is the first bad one.
-use Rattle.std.proofs.Common.{◌≡◌, ◌≢◌, ◌↔◌, ◌⊎◌, inl, inr, ℕ, ◌+◌, Bool, true, false, ◌||◌, cond, List, [], ◌∷◌, ◌++◌, length, Option, Some, None, refl, sym, ap, ◌∙◌, subst}
-use Rattle.std.specs.Prelude.{Result, Ok, Err, is_some, option_and_then}
+use Rattle.std.proofs.Common.{◌≡◌, ◌≢◌, ◌⊎◌, inl, inr, ℕ, Bool, true, false, List, [], ◌∷◌, ◌++◌, Option, Some, None, refl, sym, ap, ◌∙◌, subst}
+use Rattle.std.specs.Prelude.{Ok, Err, is_some, option_and_then}
 use Rattle.std.specs.List.{AllByRecursion, flat_map, list_any}
 use Rattle.std.proofs.lemmas.Bool.{true≢false}
 use Rattle.conda_base.specs.Reads.{Read, ◌>>=◌}
@@ -10,14 +10,13 @@ use Rattle.conda_history.specs.declared.line.Line.TheVariants.{Nothing, Header, 
 use Rattle.conda_history.specs.declared.read.Reading.{Reading}
 use Rattle.conda_history.specs.declared.revision.Block.{Block}
 use Rattle.conda_history.specs.declared.revision.History.{History}
-use Rattle.conda_history.specs.Blocks.{AreChapters, Chapter, HaveBlocks, IsAmong, IsBadAt, IsBlock, IsBlockOf, IsHistory, IsLast, begins_well, chapter_lines, is_plain, signed_dist}
-use Rattle.conda_history.specs.Lines.{line_of}
+use Rattle.conda_history.specs.Blocks.{AreChapters, Chapter, HaveBlocks, IsAmong, IsBadAt, IsBlock, IsBlockOf, IsHistory, begins_well, chapter_lines, is_plain, signed_dist}
 use Rattle.conda_history.specs.Reading.{blocks_read, closed, history_read, lines_read, start, step, text_read}
 use Rattle.conda_history.specs.Says.{AreLines, Means, lines_of}
 use Rattle.conda_history.specs.Sets.{IsIn}
 use Rattle.conda_history.specs.Stamps.{Exists}
 use Rattle.conda_history.proofs.LineLemmas.{Rules, line_found, line_read}
-use Rattle.conda_history.proofs.RunLemmas.{Bad, bad_lines, blocks_run, lines_bad, lines_run, run, run_append, run_blocks, run_lines, well}
+use Rattle.conda_history.proofs.RunLemmas.{bad_lines, blocks_run, lines_bad, lines_run, run, run_append, run_blocks, run_lines, well}
 
 bind_ok : {A B F : Type 0} (r : Read A F) (f : A → Read B F) (y : B) → (r >>= f) ≡ Ok y → (x : A) × (r ≡ Ok x) × (f x ≡ Ok y)
 bind_ok (Ok x) f y h = (x, refl, h)

@@ -1,23 +1,23 @@
 -- What a line is read as is what it says, and a line that says something is read as it.
-use Rattle.std.proofs.Common.{◌≡◌, ◌≢◌, ◌↔◌, ◌⊎◌, inl, inr, ℕ, ◌+◌, ◌/◌, ◌%◌, ◌≤◌, Bool, true, false, cond, eqb, List, [], ◌∷◌, ◌++◌, reverse, append_assoc, Option, Some, None, refl, sym, ap, ◌∙◌, arith, subst}
+use Rattle.std.proofs.Common.{◌≡◌, ◌≢◌, ◌↔◌, ◌⊎◌, inl, inr, ℕ, ◌+◌, ◌/◌, ◌%◌, Bool, true, false, cond, eqb, List, [], ◌∷◌, ◌++◌, reverse, append_assoc, Option, Some, None, refl, sym, ap, ◌∙◌, arith, subst}
 use Rattle.std.specs.Prelude.{IfOk, IsUtf8, Result, codes, is_some, option_and_then, option_map, unwrap_or}
-use Rattle.std.specs.List.{AllByRecursion, list_all}
+use Rattle.std.specs.List.{AllByRecursion}
 use Rattle.std.specs.Str.{is_utf8}
 use Rattle.std.proofs.lemmas.Bool.{eqb-true, true≢false}
 use Rattle.std.proofs.lemmas.Grind.{reverse_onto}
 use Rattle.std.proofs.lemmas.List.{reverse-reverse}
 use Rattle.std.proofs.lemmas.Option.{same_Some}
 use Rattle.std.proofs.lemmas.Str.{IsUtf8-from_is_utf8, is_utf8-from_IsUtf8}
-use Rattle.conda_base.specs.Texts.{IsFreeOf, begins_with, cut_last, is_byte}
+use Rattle.conda_base.specs.Texts.{IsFreeOf, cut_last}
 use Rattle.conda_path.specs.Dists.{IsDist, is_bad_byte, is_dist}
 use Rattle.conda_path.specs.Files.{IsFileOf, cut_ending}
 use Rattle.conda_history.specs.declared.line.Line.{Line}
 use Rattle.conda_history.specs.declared.line.Line.TheVariants.{Nothing, Header, Removed, Added, Plain}
 use Rattle.conda_history.specs.declared.stamp.Stamp.{Stamp}
-use Rattle.conda_history.specs.Stamps.{Exists, moment_text, stamp_of}
+use Rattle.conda_history.specs.Stamps.{moment_text, stamp_of}
 use Rattle.conda_history.specs.Lines.{before_mark, before_one, behind_colons, behind_mark, behind_one, dist_of, dist_part, entry_of, file_of, header_of, is_end, line_of, middle_of, named_of, said_of, said_with, says_nothing, without_ends}
-use Rattle.conda_history.specs.Says.{IsBare, IsHeader, IsStripped, IsUnsigned, Means, NamesDist, Says, is_blank}
-use Rattle.conda_history.proofs.EndLemmas.{Whole, between, is_last, last_is, one_is, one_not, spaces_ends, whole_of}
+use Rattle.conda_history.specs.Says.{IsHeader, IsUnsigned, Means, NamesDist, Says}
+use Rattle.conda_history.proofs.EndLemmas.{between, is_last, last_is, one_is, spaces_ends, whole_of}
 use Rattle.conda_history.proofs.StampLemmas.{moment_found, moment_read}
 
 -- ---- what the reader of lines is told
@@ -139,8 +139,11 @@ module _ (rules : Rules) where
           → cond (is_some o) behind text ≡ file → Q
       colon before behind e None f g = inl g
       colon before behind e (Some channel) f g =
-          inr (channel, e ∙ ap (λ b. b ++ 58 ∷ behind) (last_is 58 before channel f)
-          ∙ append_assoc channel (58 ∷ []) (58 ∷ behind) ∙ ap (λ r. channel ++ 58 ∷ 58 ∷ r) g)
+          inr (
+            channel,
+            e ∙ ap (λ b. b ++ 58 ∷ behind) (last_is 58 before channel f)
+                ∙ append_assoc channel (58 ∷ []) (58 ∷ behind) ∙ ap (λ r. channel ++ 58 ∷ 58 ∷ r) g,
+          )
 
       by : (o : Option (List ℕ × List ℕ)) → cut_last 58 text ≡ o → behind_colons text o ≡ file → Q
       by None e g = inl g

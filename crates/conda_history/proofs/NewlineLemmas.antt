@@ -1,7 +1,7 @@
 -- The first line of a text.
-use Rattle.std.proofs.Common.{◌≡◌, ℕ, ◌<◌, ◌≤◌, Bool, true, false, eqb, List, [], ◌∷◌, ◌++◌, suc, length, take, drop, get_or, refl, sym, ap, ◌∙◌, arith, drop-cons}
+use Rattle.std.proofs.Common.{◌≡◌, ℕ, ◌<◌, Bool, true, false, eqb, List, [], ◌∷◌, ◌++◌, suc, length, take, drop, get_or, refl, sym, ap, ◌∙◌, arith, drop-cons}
 use Rattle.std.specs.Prelude.{Some, None}
-use Rattle.std.specs.List.{All, slice_split}
+use Rattle.std.specs.List.{All}
 use Rattle.std.proofs.lemmas.Bool.{eqb-true}
 use Rattle.std.proofs.lemmas.List.{get_or-take, length-take, take-append-drop}
 use Rattle.std.proofs.lemmas.List.Elements.{All-from_get_or}
@@ -23,8 +23,8 @@ cut_at bytes at h =
     let whole : bytes ≡ take at bytes ++ (10 ∷ drop (suc at) bytes) = sym (take-append-drop at bytes) ∙ ap (λ r. take at bytes ++ r) tail in
     let plain : All (λ b. is_byte 10 b ≡ false) (take at bytes) =
     All-from_get_or (λ b. is_byte 10 b ≡ false) (take at bytes) 0 (λ i lt.
-        let low : i < at = omega (arith, lt, length-take at bytes) in
-        ap (is_byte 10) (get_or-take at bytes i 0 low) ∙ not_true (eqb (get_or bytes i 0) 10) (h.0.before i (omega arith) low)) in
+    let low : i < at = omega (arith, lt, length-take at bytes) in
+    ap (is_byte 10) (get_or-take at bytes i 0 low) ∙ not_true (eqb (get_or bytes i 0) 10) (h.0.before i (omega arith) low)) in
     ap lines_of whole ∙ slice_split_at (is_byte 10) (take at bytes) 10 (drop (suc at) bytes) plain refl
     ∙ ap (λ r. take at bytes ∷ lines_of (drop 1 r)) (sym tail)
 

@@ -1,9 +1,8 @@
 -- What lines in their order are read as, and the blocks that they are.
-use Rattle.std.proofs.Common.{◌≡◌, ◌≢◌, ◌↔◌, ◌⊎◌, inl, inr, ℕ, ◌+◌, Bool, true, false, ◌||◌, cond, List, [], ◌∷◌, ◌++◌, length, append_assoc, Option, Some, None, refl, sym, ap, ◌∙◌, subst, arith}
-use Rattle.std.specs.Prelude.{Result, Ok, Err, is_some, option_and_then}
-use Rattle.std.specs.List.{AllByRecursion, flat_map, list_all, list_any}
+use Rattle.std.proofs.Common.{◌≡◌, ℕ, ◌+◌, Bool, true, false, ◌||◌, List, [], ◌∷◌, ◌++◌, length, append_assoc, Option, Some, None, refl, sym, ap, ◌∙◌, subst, arith}
+use Rattle.std.specs.Prelude.{Ok, Err, is_some, option_and_then}
+use Rattle.std.specs.List.{flat_map, list_all, list_any}
 use Rattle.std.proofs.lemmas.Bool.{true≢false}
-use Rattle.std.proofs.lemmas.List.{append-nil}
 use Rattle.conda_base.specs.Reads.{Read, ◌>>=◌}
 use Rattle.conda_history.specs.declared.line.Line.{Line}
 use Rattle.conda_history.specs.declared.line.Line.TheVariants.{Nothing, Header, Removed, Added, Plain}
@@ -13,8 +12,7 @@ use Rattle.conda_history.specs.declared.revision.Block.{Block}
 use Rattle.conda_history.specs.declared.stamp.Stamp.{Stamp}
 use Rattle.conda_history.specs.Blocks.{AreChapters, Chapter, HaveBlocks, IsChapter, begins_well, chapter_lines, is_header, says_nothing}
 use Rattle.conda_history.specs.Lines.{line_of}
-use Rattle.conda_history.specs.Names.{Names}
-use Rattle.conda_history.specs.Reading.{begun, block_of, closed, line_read as line_read_of, lines_read, named, no_names, open_with, or_line, start, step}
+use Rattle.conda_history.specs.Reading.{block_of, closed, line_read as line_read_of, lines_read, no_names, open_with, or_line, start, step}
 use Rattle.conda_history.specs.Says.{AreLines, Means}
 use Rattle.conda_history.proofs.BlockLemmas.{block_stamp, is_block, names_after, one_block}
 

@@ -317,8 +317,11 @@ after_in d (b ∷ bs) set (inl h) = by h.0 h.3 (after_in d bs (set_with set b))
         f (inl (before, h.1, h.2, rest, h.4, h.5))
 after_in d (b ∷ bs) set (inr h) =
     after_in d bs (set_with set b)
-    (inr (with_in d b.added (kept_by b set)
-    (inr (kept_in d b set h.0 (not_whole b d h.1.0) (λ i. h.1.0 (inr (inl i))))), h.1.1))
+    (inr (
+      with_in d b.added (kept_by b set)
+          (inr (kept_in d b set h.0 (not_whole b d h.1.0) (λ i. h.1.0 (inr (inl i))))),
+      h.1.1,
+    ))
 
 pub members : (bs : List Block) (d : List ℕ) → IsIn d (set_of bs) ↔ IsLeft bs d
 unfolding IsStrictlySortedBy

@@ -1,6 +1,6 @@
 -- One turn of the reader of lines.
 use Rattle.std.proofs.Common.{◌≡◌, ℕ, ◌+◌, List, [], ◌∷◌, refl, sym, ap, ◌∙◌, subst}
-use Rattle.std.specs.Prelude.{Result, Ok, Err, IfSome, Some, None}
+use Rattle.std.specs.Prelude.{Result, Ok, Err, IfSome}
 use Rattle.conda_base.specs.Reads.{Gives, Read, ◌>>=◌}
 use Rattle.conda_history.specs.declared.read.Reading.{Reading}
 use Rattle.conda_history.specs.declared.revision.Block.{Block}

@@ -1,35 +1,33 @@
 -- The text of blocks is read as these blocks.
-use Rattle.std.proofs.Common.{◌≡◌, ◌≢◌, ◌⊎◌, inl, inr, ℕ, ◌+◌, ◌<◌, ◌≤◌, ◌/◌, ◌%◌, Bool, true, false, ◌||◌, ◌&&◌, not, cond, eqb, List, [], ◌∷◌, ◌++◌, map, reverse, append_assoc, Option, Some, None, refl, sym, ap, ◌∙◌, subst, arith, lit<, get_or, zero, suc}
-use Rattle.std.specs.Prelude.{IsUtf8, Ok, Err, codes, option_and_then}
-use Rattle.std.specs.List.{All, AllByRecursion, flat_map, list_any, slice_split}
+use Rattle.std.proofs.Common.{◌≡◌, ◌≢◌, ◌⊎◌, inl, inr, ℕ, ◌+◌, ◌<◌, ◌≤◌, ◌/◌, ◌%◌, Bool, true, false, ◌||◌, ◌&&◌, not, cond, eqb, List, [], ◌∷◌, ◌++◌, map, reverse, append_assoc, Some, refl, sym, ap, ◌∙◌, subst, arith, lit<, get_or, zero, suc}
+use Rattle.std.specs.Prelude.{IsUtf8, Ok, codes}
+use Rattle.std.specs.List.{AllByRecursion, flat_map, list_any}
 use Rattle.std.proofs.lemmas.Bool.{eqb-true, true≢false}
 use Rattle.std.proofs.lemmas.Grind.{flat_map-append}
 use Rattle.std.proofs.lemmas.List.{append-nil, reverse-append}
 use Rattle.std.proofs.lemmas.List.Elements.{All-from_recursion}
 use Rattle.std.proofs.lemmas.List.Splits.{slice_split_at}
 use Rattle.std.proofs.lemmas.Str.{IsUtf8-append, IsUtf8-from_ascii, IsUtf8-nil}
-use Rattle.std.specs.List.Sorted.{IsStrictlySortedBy}
-use Rattle.conda_base.specs.Texts.{Ascending, begins_with, is_byte, is_empty}
+use Rattle.conda_base.specs.Texts.{begins_with, is_byte}
 use Rattle.conda_path.specs.Dists.{IsDist, is_bad_byte, is_bad_front, begins_badly}
 use Rattle.conda_history.specs.declared.line.Line.{Line}
 use Rattle.conda_history.specs.declared.line.Line.TheVariants.{Nothing, Header, Removed, Added, Plain}
 use Rattle.conda_history.specs.declared.read.Open.{Open}
 use Rattle.conda_history.specs.declared.read.Reading.{Reading}
 use Rattle.conda_history.specs.declared.revision.Block.{Block}
-use Rattle.conda_history.specs.declared.revision.History.{History}
 use Rattle.conda_history.specs.declared.stamp.Stamp.{Stamp}
 use Rattle.conda_history.specs.Blocks.{IsBlock, is_header, is_plain, is_signed}
 use Rattle.conda_history.specs.Names.{Names}
-use Rattle.conda_history.specs.Reading.{are_whole, block_of, closed, history_read, lines_read, named, no_names, open_with, start, step, text_read}
+use Rattle.conda_history.specs.Reading.{are_whole, block_of, closed, history_read, lines_read, named, no_names, open_with, start}
 use Rattle.conda_history.specs.Says.{AreLines, IsBare, IsUnsigned, Means, NamesDist, is_blank, lines_of}
 use Rattle.conda_history.specs.Sets.{IsIn, with_all, without_all}
 use Rattle.conda_history.specs.Stamps.{Exists, header_text, moment_text}
-use Rattle.conda_history.specs.Texts.{AreTexts, added_line, block_text, dists_text, ended, history_text, removed_line, shown}
+use Rattle.conda_history.specs.Texts.{AreTexts, added_line, dists_text, ended, history_text, removed_line, shown}
 use Rattle.conda_history.proofs.BlockLemmas.{block_same, names_after, whole_after}
 use Rattle.conda_history.proofs.HistoryLemmas.{read_of_text}
 use Rattle.conda_history.proofs.LineLemmas.{Rules, line_found, line_read}
 use Rattle.conda_history.proofs.RunLemmas.{run, run_append, run_lines}
-use Rattle.conda_history.proofs.SetLemmas.{C, Sorted, empty_sorted, in_with, in_without, same_members, sorted_ascend, sorted_with, sorted_without, with_in, without_in}
+use Rattle.conda_history.proofs.SetLemmas.{Sorted, empty_sorted, in_with, in_without, same_members, sorted_ascend, sorted_with, sorted_without, with_in, without_in}
 use Rattle.conda_history.proofs.StampLemmas.{short_of}
 
 -- ---- a line as it is written
@@ -139,12 +137,76 @@ header_utf8 s e =
     let ht : s.hour / 10 ≤ 79 = omega (arith, h.hour) in
     let nt : s.minute / 10 ≤ 79 = omega (arith, h.minute) in
     let st : s.second / 10 ≤ 79 = omega (arith, h.second) in
-    ascii_utf8 (header_text s)
-    (omega arith, (omega arith, (omega arith, (omega arith,
-    (digits_ascii _ yy, (digits_ascii _ yc, (digits_ascii _ yt, (digits_ascii _ yo, (omega arith,
-    (digits_ascii _ mt, (omega arith, (omega arith, (digits_ascii _ dt, (omega arith, (omega arith,
-    (digits_ascii _ ht, (omega arith, (omega arith, (digits_ascii _ nt, (omega arith, (omega arith, (digits_ascii _ st, (omega arith,
-    (omega arith, (omega arith, (omega arith, (omega arith, tt)))))))))))))))))))))))))))
+    ascii_utf8 (header_text s) (
+      omega arith,
+      (
+        omega arith,
+        (
+          omega arith,
+          (
+            omega arith,
+            (
+              digits_ascii _ yy,
+              (
+                digits_ascii _ yc,
+                (
+                  digits_ascii _ yt,
+                  (
+                    digits_ascii _ yo,
+                    (
+                      omega arith,
+                      (
+                        digits_ascii _ mt,
+                        (
+                          omega arith,
+                          (
+                            omega arith,
+                            (
+                              digits_ascii _ dt,
+                              (
+                                omega arith,
+                                (
+                                  omega arith,
+                                  (
+                                    digits_ascii _ ht,
+                                    (
+                                      omega arith,
+                                      (
+                                        omega arith,
+                                        (
+                                          digits_ascii _ nt,
+                                          (
+                                            omega arith,
+                                            (
+                                              omega arith,
+                                              (
+                                                digits_ascii _ st,
+                                                (
+                                                  omega arith,
+                                                  (omega arith, (omega arith, (omega arith, (omega arith, tt)))),
+                                                ),
+                                              ),
+                                            ),
+                                          ),
+                                        ),
+                                      ),
+                                    ),
+                                  ),
+                                ),
+                              ),
+                            ),
+                          ),
+                        ),
+                      ),
+                    ),
+                  ),
+                ),
+              ),
+            ),
+          ),
+        ),
+      ),
+    )
 
 header_bare : (s : Stamp) → IsBare (header_text s)
 header_bare s = record {
@@ -198,11 +260,76 @@ digit_plain n = by (eqb (48 + n) 10) refl
     by false e = refl
 
 header_plain : (s : Stamp) → AllByRecursion (λ b. is_byte 10 b ≡ false) (header_text s)
-header_plain s = (refl, (refl, (refl, (refl,
-  (digit_plain _, (digit_plain _, (digit_plain _, (digit_plain _, (refl,
-  (digit_plain _, (digit_plain _, (refl, (digit_plain _, (digit_plain _, (refl,
-  (digit_plain _, (digit_plain _, (refl, (digit_plain _, (digit_plain _, (refl, (digit_plain _, (digit_plain _,
-  (refl, (refl, (refl, (refl, tt)))))))))))))))))))))))))))
+header_plain s = (
+  refl,
+  (
+    refl,
+    (
+      refl,
+      (
+        refl,
+        (
+          digit_plain _,
+          (
+            digit_plain _,
+            (
+              digit_plain _,
+              (
+                digit_plain _,
+                (
+                  refl,
+                  (
+                    digit_plain _,
+                    (
+                      digit_plain _,
+                      (
+                        refl,
+                        (
+                          digit_plain _,
+                          (
+                            digit_plain _,
+                            (
+                              refl,
+                              (
+                                digit_plain _,
+                                (
+                                  digit_plain _,
+                                  (
+                                    refl,
+                                    (
+                                      digit_plain _,
+                                      (
+                                        digit_plain _,
+                                        (
+                                          refl,
+                                          (
+                                            digit_plain _,
+                                            (
+                                              digit_plain _,
+                                              (refl, (refl, (refl, (refl, tt)))),
+                                            ),
+                                          ),
+                                        ),
+                                      ),
+                                    ),
+                                  ),
+                                ),
+                              ),
+                            ),
+                          ),
+                        ),
+                      ),
+                    ),
+                  ),
+                ),
+              ),
+            ),
+          ),
+        ),
+      ),
+    ),
+  ),
+)
 
 line_plain : (l : Line) → IsShown l → AllByRecursion (λ b. is_byte 10 b ≡ false) (line_text l)
 unfolding IsShown

@@ -2,7 +2,7 @@
 use Rattle.std.specs.Prelude.{◌≡◌, ◌≢◌, ℕ, ◌⊎◌, Bool, true, false, ◌||◌, ◌==◌, List, [], ◌∷◌, ◌++◌, codes, IsUtf8}
 use Rattle.std.specs.List.{list_all, slice_split}
 use Rattle.conda_base.specs.Signs.{carriage_return, dash, hash, newline, plus, space}
-use Rattle.conda_base.specs.Texts.{begins_with, ends_with, is_byte}
+use Rattle.conda_base.specs.Texts.{begins_with, is_byte}
 use Rattle.conda_path.specs.Dists.{IsDist}
 use Rattle.conda_path.specs.Files.{IsFileOf}
 use Rattle.conda_history.specs.declared.line.Line.{Line}

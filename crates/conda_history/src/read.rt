@@ -43,7 +43,7 @@ fn closed(alloc: Global, reading: Reading) -> Result<Rows<Block>, AllocError>
 }
 
 /// A block with one more line that names a dist.
-fn with_named(current: Open, line: Line) -> Result<Open, AllocError> 
+fn with_named(current: Open, line: Line) -> Result<Open, AllocError>
     ensures { IfOk result (λ made. made ≡ steps.open_with current line) }
 {
     let Open { stamp, names } = current;

@@ -1,4 +1,4 @@
-use Rattle.std.proofs.Common.{ap, sym, ◌∙◌, arith}
+use Rattle.std.proofs.Common.{sym, ◌∙◌, arith}
 use Rattle.conda_history.proofs.TurnLemmas.{ends, goes, stops}
 use Rattle.conda_history.proofs.read.lines_of.Goals as goal
 

@@ -1,5 +1,5 @@
-use Rattle.std.proofs.Common.{◌+◌, ◌<◌, drop, length, sym, ap, ◌∙◌, arith}
-use Rattle.conda_history.specs.Sets.{chosen, is_chosen, with_all}
+use Rattle.std.proofs.Common.{◌<◌, length, ap, ◌∙◌, arith}
+use Rattle.conda_history.specs.Sets.{is_chosen}
 use Rattle.conda_history.proofs.ChangeLemmas.{chosen_more}
 use Rattle.conda_history.proofs.replay.chosen.Goals as goal
 
