@@ -1,4 +1,9 @@
 pub mod Stamps
-pub mod Blocks
+pub mod Lines
+pub mod Says
 pub mod Sets
+pub mod Names
+pub mod Blocks
 pub mod Reading
+pub mod Texts
+pub mod Faults
