@@ -100,8 +100,7 @@ pub is_index : CutLaw → (subdir path front folder found : List ℕ) → path �
     → (is_text folder subdir && not (is_bad_part found)) ≡ true → IsIndexOf subdir path found
 is_index law subdir path front folder found e cut same =
     let parts = (law slash front folder found).0 cut in
-    let same_folder : folder ≡ subdir = (same_text folder subdir).0 (first_so _ _ same) in
-    (
+    let same_folder : folder ≡ subdir = (same_text folder subdir).0 (first_so _ _ same) in (
       e ∙ ap (λ f. f ++ ending) (parts.0 ∙ ap (λ f. f ++ slash ∷ found) same_folder) ∙ sym (split_path subdir found),
       (good_is found (not_so _ (second_so (is_text folder subdir) _ same)), parts.1),
     )

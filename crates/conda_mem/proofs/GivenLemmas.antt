@@ -1,5 +1,5 @@
 -- Channels that are put one after another.
-use Rattle.std.proofs.Common.{◌≡◌, ℕ, List, [], ◌∷◌, true, false, cond, Option, Some, None, refl, ap, sym, ◌∙◌}
+use Rattle.std.proofs.Common.{◌≡◌, ℕ, List, [], ◌∷◌, true, false, cond, Option, Some, None, refl, ap, subst, sym, ◌∙◌}
 use Rattle.std.specs.Prelude.{unwrap_or}
 use Rattle.std.specs.Ordering.{nat_cmp}
 use Rattle.std.specs.Cmp.Lexicographic.{slice_cmp}
@@ -19,7 +19,7 @@ abbrev pub AreGiven : Channels → Channels → List (List ℕ × Files) → Typ
 AreGiven rest all made = (q : List ℕ) → given_files rest (files_at made q) q ≡ given_files all map.empty q
 
 -- one more is put
-pub one_put : (rest all left : Channels) (p : List ℕ) (files : List (List ℕ × Node)) (shared : Files) (old new : List (List ℕ × Files)) → left ≡ (p, files) ∷ rest
+one_put : (rest all left : Channels) (p : List ℕ) (files : List (List ℕ × Node)) (shared : Files) (old new : List (List ℕ × Files)) → left ≡ (p, files) ∷ rest
     → ((q : List ℕ) → lookup (is_at (slice_cmp nat_cmp q)) new ≡ cond (is_at (slice_cmp nat_cmp p) q) (Some shared) (lookup (is_at (slice_cmp nat_cmp q)) old))
     → shared ≡ with_files map.empty files → AreGiven left all old → AreGiven rest all new
 one_put rest all left p files shared old new is put its_files before q =
@@ -31,3 +31,11 @@ one_put rest all left p files shared old new is put its_files before q =
     ]
     ∙ ap (λ b. cond b (with_files map.empty files) (files_at old q)) (same_test p q))
     ∙ ap (λ es. given_files es (files_at old q) q) (sym is) ∙ before q
+
+-- the same where the map's key is the name as the text has it
+pub one_put_as : (rest all left : Channels) (p key : List ℕ) (files : List (List ℕ × Node)) (shared : Files) (old new : List (List ℕ × Files)) → left ≡ (p, files) ∷ rest → key ≡ p
+    → ((q : List ℕ) → lookup (is_at (slice_cmp nat_cmp q)) new ≡ cond (is_at (slice_cmp nat_cmp key) q) (Some shared) (lookup (is_at (slice_cmp nat_cmp q)) old))
+    → shared ≡ with_files map.empty files → AreGiven left all old → AreGiven rest all new
+one_put_as rest all left p key files shared old new is same put =
+    let P : List ℕ → Type 0 = λ k. (q : List ℕ) → lookup (is_at (slice_cmp nat_cmp q)) new ≡ cond (is_at (slice_cmp nat_cmp k) q) (Some shared) (lookup (is_at (slice_cmp nat_cmp q)) old) in
+    one_put rest all left p files shared old new is (subst P same put)

@@ -133,8 +133,7 @@ once_sorted texts kept once sorted = subst Ascending (sym once) (ascend _ (IsStr
 pub once_lists : (all : Files) (subdir : List ℕ) (names sorted kept : List (List ℕ)) → IsPermutation names sorted → kept ≡ dedup (pointwise nat_eq) sorted
     → ListsFolders all subdir names → ListsFolders all subdir kept
 once_lists all subdir names sorted kept moved once lists name =
-    let P : List (List ℕ) → Type 0 = λ ns. Contains ns name in
-    (
+    let P : List (List ℕ) → Type 0 = λ ns. Contains ns name in (
       λ found. (lists name).0 (Contains-permutation sorted names name (IsPermutation-sym names sorted moved) (Contains-from_dedup (pointwise nat_eq) sorted name (subst P once found))),
       λ has. subst P (sym once) (Contains-dedup nat_list_eq_equiv same_texts sorted name (Contains-permutation names sorted name moved ((lists name).1 has))),
     )

@@ -1,6 +1,7 @@
-use Rattle.std.proofs.Common.{nat_eq}
+use Rattle.std.proofs.Common.{nat_eq, subst, ◌∙◌}
 use Rattle.std.specs.Cmp.Lexicographic.{pointwise}
 use Rattle.std.proofs.lemmas.List.Filters.{dedup_is}
+use Rattle.conda_device.specs.Channels.{Files, ListsFolders}
 use Rattle.conda_mem.proofs.NamesLemmas.{once_lists, once_sorted}
 use Rattle.conda_mem.proofs.files.Files.folders.Goals as goal
 
@@ -10,4 +11,6 @@ returns-clause-ascending c =
 
 pub returns-clause-names : goal.returns-clause-names
 returns-clause-names c =
-    once_lists _ _ c.in_ok-names.field-0.items c.sort.new.self.items _ c.sort.ensures.permutation (dedup_is (pointwise nat_eq) c.sort.new.self.items c.dedup.new.self.items c.dedup.ensures.filtered) c.in_ok-names.ensures
+    let P : Files → Type 0 = λ all. ListsFolders all c.args.subdir.now c.dedup.new.self.items in
+    subst P (c.deref.ensures ∙ c.self.view_is)
+    (once_lists _ _ c.in_ok-names.names.items c.sort.new.self.items _ c.sort.ensures.permutation (dedup_is (pointwise nat_eq) c.sort.new.self.items c.dedup.new.self.items c.dedup.ensures.filtered) c.in_ok-names.ensures)
