@@ -3,8 +3,10 @@ ghost use Rattle.conda_files.specs.Refusals.{device_count_after};
 
 use conda_base::{Bytes, Text};
 use conda_device::{Chan, DeviceErr, FaultCount, Seen, Shown};
-use conda_files::{Found, answered, bytes_at, done, found_at, is_inside, ordered_folders_with};
-use conda_files::{place_in, target_bytes};
+use conda_files::{
+    Found, answered, bytes_at, done, found_at, is_inside, ordered_folders_with, place_in,
+    target_bytes,
+};
 use conda_path::Kind;
 use std::alloc::Global;
 use std::rt::Files;
@@ -78,12 +80,7 @@ impl<R: Files + AllocGlobal + Clone + Send + Drop> Chan for RealChan<R> {
         shown_at(alloc, &self.rt, place.as_str(), &mut self.faults)
     }
 
-    fn read(
-        &mut self,
-        alloc: Global,
-        path: &str,
-        max: u64,
-    ) -> Result<Option<Vec<u8>>, DeviceErr> {
+    fn read(&mut self, alloc: Global, path: &str, max: u64) -> Result<Option<Vec<u8>>, DeviceErr> {
         if !is_inside(path) {
             return Ok(None);
         }

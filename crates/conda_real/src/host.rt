@@ -149,12 +149,7 @@ impl<R: Files + AllocGlobal + Clone + Send + Drop> Host for RealHost<R> {
         forget(&mut self.lent, prefix);
     }
 
-    fn chan(
-        &mut self,
-        alloc: Global,
-        root: &str,
-        name: &str,
-    ) -> Result<RealChan<R>, DeviceErr> {
+    fn chan(&mut self, alloc: Global, root: &str, name: &str) -> Result<RealChan<R>, DeviceErr> {
         let folder = Text::from_string(place_in(alloc, root, name)?);
         Ok(RealChan::make(self.rt.clone()?, folder))
     }

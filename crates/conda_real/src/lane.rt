@@ -2,9 +2,10 @@ ghost use Rattle.std.specs.Prelude.{◌≡◌, ◌≤◌};
 
 use conda_base::Text;
 use conda_device::{Abilities, DeviceErr, Failed, FaultCount, Lane, Seen};
-use conda_files::{Coming, Found, Share, bring, done, drop_empty, found_at, is_behind_link, make};
-use conda_files::{node_at, paths_below, place_in, refused, seen_at, slot_folder};
-use conda_files::{temporary_place};
+use conda_files::{
+    Coming, Found, Share, bring, done, drop_empty, found_at, is_behind_link, make, node_at,
+    paths_below, place_in, refused, seen_at, slot_folder, temporary_place,
+};
 use conda_path::{Kind, Node, RelPath, StorePath};
 use std::alloc::{AllocError, Global};
 use std::io::{self, ErrorKind};

@@ -2,8 +2,10 @@ ghost use Rattle.std.specs.Prelude.{◌≡◌};
 
 use conda_base::Text;
 use conda_device::{DeviceErr, Failed, FaultCount, Store};
-use conda_files::{MARK, answered, bytes_at, done, is_absent, make, place_in, ready_keys};
-use conda_files::{slot_folder, temporary_place};
+use conda_files::{
+    MARK, answered, bytes_at, done, is_absent, make, place_in, ready_keys, slot_folder,
+    temporary_place,
+};
 use conda_path::{Kind, RelPath, SlotKey};
 use std::alloc::Global;
 use std::fs;
@@ -41,13 +43,7 @@ impl<R: Files + AllocGlobal + Clone + Drop> RealStore<R> {
         let alloc = self.rt.alloc();
         let place = self.place(alloc, key, path)?;
         let temporary = temporary_place(alloc, place.as_str(), 0)?;
-        make(
-            &self.rt,
-            temporary.as_str(),
-            place.as_str(),
-            kind,
-            bytes,
-        )
+        make(&self.rt, temporary.as_str(), place.as_str(), kind, bytes)
     }
 
     /// Takes a package's folder away, its mark first: a folder that is taken away by half is never
