@@ -1,5 +1,5 @@
 -- Sides as the clauses ask for them, cut to what is reached, are a solution; and those that choose a solution are such sides.
-use Rattle.std.proofs.Common.{◌≡◌, ◌≢◌, ◌↔◌, ℕ, zero, suc, ◌+◌, ◌≤◌, ◌<◌, Bool, true, false, cond, List, [], ◌∷◌, map, filter, get_or, length, refl, sym, ap, ◌∙◌, subst, ◌⊎◌, inl, inr, true≢false, arith}
+use Rattle.std.proofs.Common.{◌≡◌, ◌↔◌, ℕ, zero, suc, ◌+◌, ◌≤◌, ◌<◌, Bool, true, false, cond, List, [], ◌∷◌, map, filter, refl, sym, ap, ◌∙◌, subst, ◌⊎◌, inl, inr, true≢false, arith}
 use Rattle.std.proofs.lemmas.List.Kept.{AllPairs-cons}
 use Rattle.std.proofs.lemmas.Bool.Decides.{Decides-eqb}
 use Rattle.std.proofs.lemmas.Slice.Eq.{slice_eq-Decides}
@@ -9,9 +9,9 @@ use Rattle.std.specs.List.{All, AllPairs, Contains}
 use Rattle.conda_spec.specs.Parts.{Parts}
 use Rattle.conda_record.specs.declared.pkg_record.PkgRecord.{PkgRecord}
 use Rattle.conda_record.specs.declared.pool.NamePool.{NamePool}
-use Rattle.conda_encode.specs.Matching.{bars, is_of_name, lowered, names}
-use Rattle.conda_encode.specs.Models.{Chooses, IsCut, chosen}
-use Rattle.conda_encode.specs.Solution.{HaveOtherNames, IsBound, IsMet, IsOfItsPool, IsReached, IsSolution, NoNameTwice, Pins, Wants}
+use Rattle.conda_encode.specs.Matching.{lowered}
+use Rattle.conda_encode.specs.Models.{Chooses, chosen}
+use Rattle.conda_encode.specs.Solution.{HaveOtherNames, IsBound, IsMet, IsOfItsPool, IsReached, IsSolution, NoNameTwice}
 use Rattle.conda_encode.specs.Solution.IsReached.{needed, wanted}
 use Rattle.conda_encode.specs.Variables.{IsRequest, numbered, records, variables}
 use Rattle.conda_encode.specs.declared.asked.Asked.{Asked}
@@ -75,11 +75,11 @@ pairs R w s (m ∷ ms) each =
     let cases : (b : Bool) → P b = λ b. elim b as P [
       | true ↦ λ here. AllPairs-cons R m rest
           (AllFrom (R m) rest (λ n i.
-            let o : (y : Numbered) × In y (filter (λ x. w x.0) (numbered (s + 1) ms)) × (y.1 ≡ n) = of_map (λ (x : Numbered). x.1) (filter (λ x. w x.0) (numbered (s + 1) ms)) n i in
-            let f = of_filter (λ (x : Numbered). w x.0) (numbered (s + 1) ms) o.0 o.1 in
-            let low : s + 1 ≤ o.0.0 = number_low (s + 1) ms o.0 f.0 in
-            let Q : PkgRecord → Type 0 = λ u. R m u in
-            subst Q o.2 (each (s, m) o.0 (inl refl) (inr f.0) here f.1 (omega arith))))
+          let o : (y : Numbered) × In y (filter (λ x. w x.0) (numbered (s + 1) ms)) × (y.1 ≡ n) = of_map (λ (x : Numbered). x.1) (filter (λ x. w x.0) (numbered (s + 1) ms)) n i in
+          let f = of_filter (λ (x : Numbered). w x.0) (numbered (s + 1) ms) o.0 o.1 in
+          let low : s + 1 ≤ o.0.0 = number_low (s + 1) ms o.0 f.0 in
+          let Q : PkgRecord → Type 0 = λ u. R m u in
+          subst Q o.2 (each (s, m) o.0 (inl refl) (inr f.0) here f.1 (omega arith))))
           later
       | false ↦ λ here. later
     ] in
@@ -99,38 +99,38 @@ pub cut_solves : (pools : List NamePool) (items : List Asked) (v w : ℕ → Boo
     IsSolution (chosen pools w) items pools
 cut_solves pools items v w request sides keeps = record {
   of_pools = λ m c.
-    let x = of_chosen pools w m c in
-    let P : PkgRecord → Type 0 = λ u. IsOfItsPool pools u in
-    subst P x.2 (own_pool pools items request x.0.1 (numbered_in 1 (records pools) x.0 x.1.0));
+      let x = of_chosen pools w m c in
+      let P : PkgRecord → Type 0 = λ u. IsOfItsPool pools u in
+      subst P x.2 (own_pool pools items request x.0.1 (numbered_in 1 (records pools) x.0 x.1.0));
   apart = apart pools w (λ x y a b same. sides.once x y (was pools items v w keeps x a).0 (was pools items v w keeps y b).0 same);
   wanted = λ spec wants.
-    let found = sides.wanted spec wants in
-    met pools items v w keeps spec found (λ c. wanted spec found.0.1 wants c found.2);
+      let found = sides.wanted spec wants in
+      met pools items v w keeps spec found (λ c. wanted spec found.0.1 wants c found.2);
   depends = λ m c spec d.
-    let x = of_chosen pools w m c in
-    let t = was pools items v w keeps x.0 x.1 in
-    let P : PkgRecord → Type 0 = λ u. Contains u.depends spec in
-    let e : Contains x.0.1.depends spec = subst P (sym x.2) d in
-    let found = sides.needed x.0 t.0 spec (from_contains x.0.1.depends spec e) in
-    met pools items v w keeps spec found (λ k. needed x.0.1 spec found.0.1 t.1 e k found.2);
+      let x = of_chosen pools w m c in
+      let t = was pools items v w keeps x.0 x.1 in
+      let P : PkgRecord → Type 0 = λ u. Contains u.depends spec in
+      let e : Contains x.0.1.depends spec = subst P (sym x.2) d in
+      let found = sides.needed x.0 t.0 spec (from_contains x.0.1.depends spec e) in
+      met pools items v w keeps spec found (λ k. needed x.0.1 spec found.0.1 t.1 e k found.2);
   pinned = λ spec pins m c.
-    let x = of_chosen pools w m c in
-    let P : PkgRecord → Type 0 = λ u. IsBound spec u in
-    subst P x.2 (bound_from spec x.0.1 (λ bar. sides.pinned spec pins x.0 (was pools items v w keeps x.0 x.1).0 bar));
+      let x = of_chosen pools w m c in
+      let P : PkgRecord → Type 0 = λ u. IsBound spec u in
+      subst P x.2 (bound_from spec x.0.1 (λ bar. sides.pinned spec pins x.0 (was pools items v w keeps x.0 x.1).0 bar));
   constrains = λ m n a b others spec d.
-    let x = of_chosen pools w m a in
-    let y = of_chosen pools w n b in
-    let P : PkgRecord → Type 0 = λ u. Contains u.constrains spec in
-    let e : Contains x.0.1.constrains spec = subst P (sym x.2) d in
-    let Q : PkgRecord → Type 0 = λ u. IsBound spec u in
-    subst Q y.2 (bound_from spec y.0.1 (λ bar.
+      let x = of_chosen pools w m a in
+      let y = of_chosen pools w n b in
+      let P : PkgRecord → Type 0 = λ u. Contains u.constrains spec in
+      let e : Contains x.0.1.constrains spec = subst P (sym x.2) d in
+      let Q : PkgRecord → Type 0 = λ u. IsBound spec u in
+      subst Q y.2 (bound_from spec y.0.1 (λ bar.
       let same : x.0.0 ≡ y.0.0 = sides.barred x.0 y.0 (was pools items v w keeps x.0 x.1).0 (was pools items v w keeps y.0 y.1).0 spec (from_contains x.0.1.constrains spec e) bar in
       let one : x.0.1 ≡ y.0.1 = number_once 1 (records pools) x.0 y.0 x.1.0 y.1.0 same in
       others (ap (λ (u : PkgRecord). lowered u.name) (sym x.2 ∙ one ∙ y.2))));
   reached = λ m c.
-    let x = of_chosen pools w m c in
-    let P : PkgRecord → Type 0 = λ u. IsReached items (chosen pools w) u in
-    subst P x.2 (within pools items v w keeps x.0.1 (was pools items v w keeps x.0 x.1).1);
+      let x = of_chosen pools w m c in
+      let P : PkgRecord → Type 0 = λ u. IsReached items (chosen pools w) u in
+      subst P x.2 (within pools items v w keeps x.0.1 (was pools items v w keeps x.0 x.1).1);
 }
 
 -- ---- and back
@@ -138,7 +138,7 @@ cut_solves pools items v w request sides keeps = record {
 names_same_or : (m n : PkgRecord) → (lowered m.name ≡ lowered n.name) ⊎ HaveOtherNames m n
 names_same_or m n =
     let d : Decides (is_text (lowered m.name) (lowered n.name)) (lowered m.name ≡ lowered n.name)
-          = slice_eq-Decides Decides-eqb (lowered m.name) (lowered n.name) (is_text (lowered m.name) (lowered n.name)) refl in
+    = slice_eq-Decides Decides-eqb (lowered m.name) (lowered n.name) (is_text (lowered m.name) (lowered n.name)) refl in
     let P : Bool → Type 0 = λ b. is_text (lowered m.name) (lowered n.name) ≡ b → (lowered m.name ≡ lowered n.name) ⊎ HaveOtherNames m n in
     let cases : (b : Bool) → P b = λ b. elim b as P [ true ↦ λ e. inl (d.0 e) | false ↦ λ e. inr (λ same. true≢false (sym (d.1 same) ∙ e)) ] in
     cases (is_text (lowered m.name) (lowered n.name)) refl
@@ -147,10 +147,10 @@ pub solution_sides : (pools : List NamePool) (items : List Asked) (set : List Pk
     AreSides pools items w
 solution_sides pools items set w solution chooses =
     let found : (spec : Parts) → IsMet set spec → IsMetBy pools w spec = λ spec m.
-      let o = chooses.all m.0 m.1 in ((o.0, m.0), (from_contains (variables pools) (o.0, m.0) o.1, o.2), m.2) in
+    let o = chooses.all m.0 m.1 in ((o.0, m.0), (from_contains (variables pools) (o.0, m.0) o.1, o.2), m.2) in
     let member : (x : Numbered) → IsTrueOf pools w x → Contains set x.1 = λ x t. chooses.only x (to_contains (variables pools) x t.0) t.1 in
     let once : (x y : Numbered) → IsTrueOf pools w x → IsTrueOf pools w y → lowered x.1.name ≡ lowered y.1.name → x.0 ≡ y.0 =
-      λ x y a b same. chooses.once x y (to_contains (variables pools) x a.0) (to_contains (variables pools) y b.0) a.1 b.1 same in
+    λ x y a b same. chooses.once x y (to_contains (variables pools) x a.0) (to_contains (variables pools) y b.0) a.1 b.1 same in
     record {
       wanted = λ spec wants. found spec (solution.wanted spec wants);
       needed = λ x t spec d. found spec (solution.depends x.1 (member x t) spec (to_contains x.1.depends spec d));

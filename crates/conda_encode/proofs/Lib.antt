@@ -15,3 +15,5 @@ pub mod Nonzero
 pub mod Lent
 pub mod Bounds
 pub mod Within
+pub mod Marking
+pub mod Reaching

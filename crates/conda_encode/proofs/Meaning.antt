@@ -1,22 +1,19 @@
 -- The clauses but for those on names: that they are true is what is asked of the sides.
-use Rattle.std.proofs.Common.{◌≡◌, ◌≢◌, ℕ, zero, suc, ◌+◌, ◌≤◌, ◌<◌, ℤ, Bool, true, false, not, List, [], ◌∷◌, ◌++◌, map, filter, refl, sym, ap, ◌∙◌, subst, ◌⊎◌, inl, inr, true≢false, arith, int_eq}
+use Rattle.std.proofs.Common.{◌≡◌, ℕ, ◌≤◌, ℤ, Bool, true, not, List, [], ◌∷◌, map, filter, refl, sym, ap, ◌∙◌, subst, inl, inr, true≢false, int_eq}
 use Rattle.std.proofs.lemmas.Bool.Decides.{Decides-int_eq}
-use Rattle.std.specs.List.{Contains, flat_map, list_all}
 use Rattle.conda_refute.specs.Literals.{clause_true, literal_true}
 use Rattle.conda_spec.specs.Parts.{Parts}
-use Rattle.conda_record.specs.declared.pkg_record.PkgRecord.{PkgRecord}
 use Rattle.conda_record.specs.declared.pool.NamePool.{NamePool}
 use Rattle.conda_encode.specs.Clauses.{Reason, barred, barred_by, barred_entry, each_barred, needed, needed_by, off, on, pinned, pinned_at, some_named, wanted, wanted_at}
 use Rattle.conda_encode.specs.Matching.{bars, names}
-use Rattle.conda_encode.specs.Solution.{Pins, Wants}
 use Rattle.conda_encode.specs.Variables.{numbered, records, variables}
 use Rattle.conda_encode.specs.declared.asked.Asked.{Asked}
 use Rattle.conda_encode.specs.declared.asked.AskKind.{AskKind}
 use Rattle.conda_encode.specs.declared.asked.AskKind.TheVariants.{Pinned, Wanted}
 use Rattle.conda_encode.specs.declared.encoded.Why.{Why}
-use Rattle.conda_encode.proofs.Members.{In, all_at, all_from, any_at, any_from, from_contains, in_filter, in_flat_map, in_map, number_low, number_of, numbered_in, of_filter, of_flat_map, of_map, to_contains}
-use Rattle.conda_encode.proofs.Literals.{by_side, off_from, off_same, off_then, off_true, off_unless, on_from, on_true, one_literal, only_literal}
-use Rattle.conda_encode.proofs.Sides.{IsMetBy, IsTrueOf, NeededMet, NoneBarred, Numbered, PinsKept, WantedMet}
+use Rattle.conda_encode.proofs.Members.{In, any_at, any_from, from_contains, in_filter, in_flat_map, in_map, number_low, number_of, numbered_in, of_filter, of_flat_map, of_map, to_contains}
+use Rattle.conda_encode.proofs.Literals.{by_side, off_same, off_then, off_true, off_unless, on_from, on_true, only_literal}
+use Rattle.conda_encode.proofs.Sides.{IsMetBy, NeededMet, NoneBarred, Numbered, PinsKept, WantedMet}
 
 -- the clause of a reason is true
 abbrev pub holds : (ℕ → Bool) → Reason → Bool
@@ -49,7 +46,7 @@ in_barred pools spec y i bar =
 of_barred : (pools : List NamePool) (spec : Parts) (l : ℤ) → In l (each_barred pools spec) → (y : Numbered) × In y (variables pools) × (bars spec y.1 ≡ true) × (off y.0 ≡ l)
 of_barred pools spec l i =
     let x : (x : Numbered) × In x (filter (λ x. bars spec x.1) (variables pools)) × (off x.0 ≡ l)
-          = of_map (λ (x : Numbered). off x.0) (filter (λ x. bars spec x.1) (variables pools)) l i in
+    = of_map (λ (x : Numbered). off x.0) (filter (λ x. bars spec x.1) (variables pools)) l i in
     let f = of_filter (λ (y : Numbered). bars spec y.1) (variables pools) x.0 x.1 in
     (x.0, f.0, f.1, x.2)
 
@@ -70,14 +67,14 @@ wanted_met pools items v hold spec (item, c, kind, same) =
     let n : (n : ℕ) × In (n, item) (numbered 0 items) = number_of 0 items item (from_contains items item c) in
     let r : Reason = (Why.Asked n.0, some_named pools item.spec) in
     let i : In r (wanted pools items)
-          = in_flat_map (λ (i : ℕ × Asked). wanted_at pools i.1.kind i.1.spec i.0) (numbered 0 items) (n.0, item) r n.1 (in_wanted pools item.kind item.spec n.0 kind) in
+    = in_flat_map (λ (i : ℕ × Asked). wanted_at pools i.1.kind i.1.spec i.0) (numbered 0 items) (n.0, item) r n.1 (in_wanted pools item.kind item.spec n.0 kind) in
     let P : Parts → Type 0 = λ s. IsMetBy pools v s in
     subst P same (some_true pools v item.spec (hold r i))
 
 pub wanted_hold : (pools : List NamePool) (items : List Asked) (v : ℕ → Bool) → WantedMet pools items v → Hold v (wanted pools items)
 wanted_hold pools items v met r i =
     let w : (x : ℕ × Asked) × In x (numbered 0 items) × In r (wanted_at pools x.1.kind x.1.spec x.0)
-          = of_flat_map (λ (i : ℕ × Asked). wanted_at pools i.1.kind i.1.spec i.0) (numbered 0 items) r i in
+    = of_flat_map (λ (i : ℕ × Asked). wanted_at pools i.1.kind i.1.spec i.0) (numbered 0 items) r i in
     let f = of_wanted pools w.0.1.kind w.0.1.spec w.0.0 r w.2 in
     ap (clause_true v) f.1 ∙ some_from pools v w.0.1.spec (met w.0.1.spec (w.0.1, to_contains items w.0.1 (numbered_in 0 items w.0 w.1), f.0, refl))
 
@@ -88,19 +85,19 @@ needed_met pools v hold x t spec d =
     let n : (n : ℕ) × In (n, spec) (numbered 0 x.1.depends) = number_of 0 x.1.depends spec d in
     let r : Reason = (Why.Needs x.0 n.0, off x.0 ∷ some_named pools spec) in
     let i : In r (needed pools)
-          = in_flat_map (needed_by pools) (variables pools) x r t.0
-            (in_map (λ (d : ℕ × Parts). (Why.Needs x.0 d.0, off x.0 ∷ some_named pools d.1)) (numbered 0 x.1.depends) (n.0, spec) n.1) in
+    = in_flat_map (needed_by pools) (variables pools) x r t.0
+    (in_map (λ (d : ℕ × Parts). (Why.Needs x.0 d.0, off x.0 ∷ some_named pools d.1)) (numbered 0 x.1.depends) (n.0, spec) n.1) in
     some_true pools v spec (off_then v x.0 (some_named pools spec) (hold r i) t.1)
 
 pub needed_hold : (pools : List NamePool) (v : ℕ → Bool) → NeededMet pools v → Hold v (needed pools)
 needed_hold pools v met r i =
     let x : (x : Numbered) × In x (variables pools) × In r (needed_by pools x) = of_flat_map (needed_by pools) (variables pools) r i in
     let d : (d : ℕ × Parts) × In d (numbered 0 x.0.1.depends) × ((Why.Needs x.0.0 d.0, off x.0.0 ∷ some_named pools d.1) ≡ r)
-          = of_map (λ (d : ℕ × Parts). (Why.Needs x.0.0 d.0, off x.0.0 ∷ some_named pools d.1)) (numbered 0 x.0.1.depends) r x.2 in
+    = of_map (λ (d : ℕ × Parts). (Why.Needs x.0.0 d.0, off x.0.0 ∷ some_named pools d.1)) (numbered 0 x.0.1.depends) r x.2 in
     let e : off x.0.0 ∷ some_named pools d.0.1 ≡ r.1 = ap (λ (q : Reason). q.1) d.2 in
     ap (clause_true v) (sym e)
     ∙ off_unless v x.0.0 (some_named pools d.0.1) (low_of pools x.0 x.1)
-      (λ yes. some_from pools v d.0.1 (met x.0 (x.1, yes) d.0.1 (numbered_in 0 x.0.1.depends d.0 d.1)))
+    (λ yes. some_from pools v d.0.1 (met x.0 (x.1, yes) d.0.1 (numbered_in 0 x.0.1.depends d.0 d.1)))
 
 -- ---- what is barred
 
@@ -113,33 +110,33 @@ none_barred pools v hold x y a b spec d bar =
           let r : Reason = (Why.Constrains x.0 n.0, off x.0 ∷ off y.0 ∷ []) in
           let q : ℤ → Bool = λ l. not (int_eq l (off x.0)) in
           let k : In r (barred_entry pools x.0 (n.0, spec))
-                = in_map (λ (l : ℤ). (Why.Constrains x.0 n.0, off x.0 ∷ l ∷ [])) (filter q (each_barred pools spec)) (off y.0)
-                  (in_filter q (each_barred pools spec) (off y.0) (in_barred pools spec y b.0 bar) (ap not other)) in
+          = in_map (λ (l : ℤ). (Why.Constrains x.0 n.0, off x.0 ∷ l ∷ [])) (filter q (each_barred pools spec)) (off y.0)
+          (in_filter q (each_barred pools spec) (off y.0) (in_barred pools spec y b.0 bar) (ap not other)) in
           let i : In r (barred pools)
-                = in_flat_map (barred_by pools) (variables pools) x r a.0
-                  (in_flat_map (barred_entry pools x.0) (numbered 0 x.1.constrains) (n.0, spec) r n.1 k) in
+          = in_flat_map (barred_by pools) (variables pools) x r a.0
+          (in_flat_map (barred_entry pools x.0) (numbered 0 x.1.constrains) (n.0, spec) r n.1 k) in
           absurd (off_true v y.0 (only_literal v (off y.0) (off_then v x.0 (off y.0 ∷ []) (hold r i) a.1)) b.1)
     ]
 
 pub barred_hold : (pools : List NamePool) (v : ℕ → Bool) → NoneBarred pools v → Hold v (barred pools)
 barred_hold pools v none r i =
     let x : (x : Numbered) × In x (variables pools) × In r (barred_by pools x)
-          = of_flat_map (barred_by pools) (variables pools) r i in
+    = of_flat_map (barred_by pools) (variables pools) r i in
     let c : (c : ℕ × Parts) × In c (numbered 0 x.0.1.constrains) × In r (barred_entry pools x.0.0 c)
-          = of_flat_map (barred_entry pools x.0.0) (numbered 0 x.0.1.constrains) r x.2 in
+    = of_flat_map (barred_entry pools x.0.0) (numbered 0 x.0.1.constrains) r x.2 in
     let q : ℤ → Bool = λ l. not (int_eq l (off x.0.0)) in
     let l : (l : ℤ) × In l (filter q (each_barred pools c.0.1)) × ((Why.Constrains x.0.0 c.0.0, off x.0.0 ∷ l ∷ []) ≡ r)
-          = of_map (λ (l : ℤ). (Why.Constrains x.0.0 c.0.0, off x.0.0 ∷ l ∷ [])) (filter q (each_barred pools c.0.1)) r c.2 in
+    = of_map (λ (l : ℤ). (Why.Constrains x.0.0 c.0.0, off x.0.0 ∷ l ∷ [])) (filter q (each_barred pools c.0.1)) r c.2 in
     let f : In l.0 (each_barred pools c.0.1) × (q l.0 ≡ true) = of_filter q (each_barred pools c.0.1) l.0 l.1 in
     let y = of_barred pools c.0.1 l.0 f.0 in
     let e : off x.0.0 ∷ l.0 ∷ [] ≡ r.1 = ap (λ (q : Reason). q.1) l.2 in
     let P : ℤ → Type 0 = λ m. clause_true v (m ∷ []) ≡ true in
     ap (clause_true v) (sym e)
     ∙ off_unless v x.0.0 (l.0 ∷ []) (low_of pools x.0 x.1) (λ yes.
-        subst P y.3 (off_unless v y.0.0 [] (low_of pools y.0 y.1) (λ also.
-          let same : x.0.0 ≡ y.0.0 = none x.0 y.0 (x.1, yes) (y.1, also) c.0.1 (numbered_in 0 x.0.1.constrains c.0 c.1) y.2 in
-          let eq : int_eq l.0 (off x.0.0) ≡ true = (Decides-int_eq l.0 (off x.0.0)).1 (sym y.3 ∙ ap off (sym same)) in
-          absurd (true≢false (sym f.1 ∙ ap not eq)))))
+    subst P y.3 (off_unless v y.0.0 [] (low_of pools y.0 y.1) (λ also.
+    let same : x.0.0 ≡ y.0.0 = none x.0 y.0 (x.1, yes) (y.1, also) c.0.1 (numbered_in 0 x.0.1.constrains c.0 c.1) y.2 in
+    let eq : int_eq l.0 (off x.0.0) ≡ true = (Decides-int_eq l.0 (off x.0.0)).1 (sym y.3 ∙ ap off (sym same)) in
+    absurd (true≢false (sym f.1 ∙ ap not eq)))))
 
 -- ---- what is pinned
 
@@ -159,18 +156,18 @@ pins_kept pools items v hold spec (item, c, kind, same) y t bar =
     let P : Parts → Type 0 = λ s. bars s y.1 ≡ true in
     let r : Reason = (Why.Pinned n.0, off y.0 ∷ []) in
     let i : In r (pinned pools items)
-          = in_flat_map (λ (i : ℕ × Asked). pinned_at pools i.1.kind i.1.spec i.0) (numbered 0 items) (n.0, item) r n.1
-            (in_pinned pools item.kind item.spec n.0 (off y.0) kind (in_barred pools item.spec y t.0 (subst P (sym same) bar))) in
+    = in_flat_map (λ (i : ℕ × Asked). pinned_at pools i.1.kind i.1.spec i.0) (numbered 0 items) (n.0, item) r n.1
+    (in_pinned pools item.kind item.spec n.0 (off y.0) kind (in_barred pools item.spec y t.0 (subst P (sym same) bar))) in
     off_true v y.0 (only_literal v (off y.0) (hold r i)) t.1
 
 pub pinned_hold : (pools : List NamePool) (items : List Asked) (v : ℕ → Bool) → PinsKept pools items v → Hold v (pinned pools items)
 pinned_hold pools items v kept r i =
     let w : (x : ℕ × Asked) × In x (numbered 0 items) × In r (pinned_at pools x.1.kind x.1.spec x.0)
-          = of_flat_map (λ (i : ℕ × Asked). pinned_at pools i.1.kind i.1.spec i.0) (numbered 0 items) r i in
+    = of_flat_map (λ (i : ℕ × Asked). pinned_at pools i.1.kind i.1.spec i.0) (numbered 0 items) r i in
     let f = of_pinned pools w.0.1.kind w.0.1.spec w.0.0 r w.2 in
     let y = of_barred pools w.0.1.spec f.1.0 f.1.1 in
     let e : f.1.0 ∷ [] ≡ r.1 = ap (λ (q : Reason). q.1) f.1.2 in
     let P : ℤ → Type 0 = λ m. clause_true v (m ∷ []) ≡ true in
     ap (clause_true v) (sym e)
     ∙ subst P y.3 (off_unless v y.0.0 [] (low_of pools y.0 y.1) (λ yes.
-        absurd (kept w.0.1.spec (w.0.1, to_contains items w.0.1 (numbered_in 0 items w.0 w.1), f.0, refl) y.0 (y.1, yes) y.2)))
+    absurd (kept w.0.1.spec (w.0.1, to_contains items w.0.1 (numbered_in 0 items w.0 w.1), f.0, refl) y.0 (y.1, yes) y.2)))

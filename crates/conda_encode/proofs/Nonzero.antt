@@ -1,12 +1,11 @@
 -- No literal of a request's clauses is 0.
-use Rattle.std.proofs.Common.{◌≡◌, ℕ, zero, suc, ◌≤◌, ◌<◌, ℤ, pos, negsuc, neg_ℤ, Bool, true, false, List, [], ◌∷◌, ◌++◌, length, map, filter, get_or, refl, sym, ap, ◌∙◌, subst, inl, inr, arith, int_eq, true≢false}
+use Rattle.std.proofs.Common.{◌≡◌, ℕ, zero, suc, ◌≤◌, ℤ, pos, negsuc, true, false, List, [], ◌∷◌, filter, get_or, ap, ◌∙◌, inl, inr, arith, int_eq}
 use Rattle.std.proofs.lemmas.Bool.Decides.{Decides-int_eq}
-use Rattle.std.specs.List.{Contains}
 use Rattle.conda_refute.specs.Literals.{has}
 use Rattle.conda_spec.specs.Parts.{Parts}
 use Rattle.conda_record.specs.declared.pool.NamePool.{NamePool}
 use Rattle.conda_encode.specs.Clauses.{each_barred, off, on, some_named}
-use Rattle.conda_encode.specs.Known.{HasSplit, IsSplitOf}
+use Rattle.conda_encode.specs.Known.{HasSplit}
 use Rattle.conda_encode.specs.Matching.{bars, names}
 use Rattle.conda_encode.specs.Variables.{variables}
 use Rattle.conda_encode.specs.declared.known.Known.{Known}
@@ -35,14 +34,14 @@ has_off n low = any_none (λ l. int_eq (pos 0) l) (off n ∷ []) (λ l i h. only
 pub named_nonzero : (pools : List NamePool) (spec : Parts) → has (some_named pools spec) (pos 0) ≡ false
 named_nonzero pools spec =
     any_none (λ l. int_eq (pos 0) l) (some_named pools spec) (λ l i h.
-      let x : (x : Numbered) × In x (filter (λ x. names spec x.1) (variables pools)) × (on x.0 ≡ l) = of_map (λ (x : Numbered). on x.0) (filter (λ x. names spec x.1) (variables pools)) l i in
-      on_nonzero x.0.0 (low_of pools x.0 (of_filter (λ (y : Numbered). names spec y.1) (variables pools) x.0 x.1).0) (ap (int_eq (pos 0)) x.2 ∙ h))
+    let x : (x : Numbered) × In x (filter (λ x. names spec x.1) (variables pools)) × (on x.0 ≡ l) = of_map (λ (x : Numbered). on x.0) (filter (λ x. names spec x.1) (variables pools)) l i in
+    on_nonzero x.0.0 (low_of pools x.0 (of_filter (λ (y : Numbered). names spec y.1) (variables pools) x.0 x.1).0) (ap (int_eq (pos 0)) x.2 ∙ h))
 
 pub barred_nonzero : (pools : List NamePool) (spec : Parts) → has (each_barred pools spec) (pos 0) ≡ false
 barred_nonzero pools spec =
     any_none (λ l. int_eq (pos 0) l) (each_barred pools spec) (λ l i h.
-      let x : (x : Numbered) × In x (filter (λ x. bars spec x.1) (variables pools)) × (off x.0 ≡ l) = of_map (λ (x : Numbered). off x.0) (filter (λ x. bars spec x.1) (variables pools)) l i in
-      off_nonzero x.0.0 (low_of pools x.0 (of_filter (λ (y : Numbered). bars spec y.1) (variables pools) x.0 x.1).0) (ap (int_eq (pos 0)) x.2 ∙ h))
+    let x : (x : Numbered) × In x (filter (λ x. bars spec x.1) (variables pools)) × (off x.0 ≡ l) = of_map (λ (x : Numbered). off x.0) (filter (λ x. bars spec x.1) (variables pools)) l i in
+    off_nonzero x.0.0 (low_of pools x.0 (of_filter (λ (y : Numbered). bars spec y.1) (variables pools) x.0 x.1).0) (ap (int_eq (pos 0)) x.2 ∙ h))
 
 -- the lists of a split that was found
 pub list_named : (pools : List NamePool) (spec : Parts) (known : Known) (at : ℕ) (split : Split) (list : List ℤ) → HasSplit pools spec known at →

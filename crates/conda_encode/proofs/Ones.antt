@@ -1,17 +1,17 @@
 -- The clauses on names: that they are true is that no two records of a name are chosen, with the helpers as they are meant.
-use Rattle.std.proofs.Common.{◌≡◌, ◌≢◌, ℕ, zero, suc, ◌+◌, ◌-◌, ◌≤◌, ◌<◌, nat_lt, Bool, true, false, not, cond, ◌||◌, ℤ, List, [], ◌∷◌, ◌++◌, length, map, drop, get_or, refl, sym, ap, ◌∙◌, subst, ◌⊎◌, inl, inr, true≢false, arith}
+use Rattle.std.proofs.Common.{◌≡◌, ◌≢◌, ℕ, zero, suc, ◌+◌, ◌-◌, ◌≤◌, ◌<◌, nat_lt, Bool, true, false, cond, ◌||◌, List, [], ◌∷◌, ◌++◌, length, drop, refl, sym, ap, ◌∙◌, subst, ◌⊎◌, inl, inr, true≢false, arith}
 use Rattle.std.proofs.lemmas.Bool.{le-ltb, lt-ltb, ltb-true, or_cases, or_left, or_right}
 use Rattle.std.proofs.lemmas.List.{length-append, length-drop}
-use Rattle.std.specs.List.{AllPairs, Contains, flat_map}
-use Rattle.conda_refute.specs.Literals.{clause_true, literal_true}
+use Rattle.std.specs.List.{AllPairs, Contains}
+use Rattle.conda_refute.specs.Literals.{clause_true}
 use Rattle.conda_record.specs.declared.pkg_record.PkgRecord.{PkgRecord}
 use Rattle.conda_record.specs.declared.pool.NamePool.{NamePool}
 use Rattle.conda_encode.specs.Clauses.{Reason, off, on, one_at, one_of, one_step, ones}
 use Rattle.conda_encode.specs.Matching.{lowered}
 use Rattle.conda_encode.specs.Variables.{helpers_of, numbered, records}
 use Rattle.conda_encode.specs.declared.encoded.Why.{Why}
-use Rattle.conda_encode.proofs.Members.{In, in_either, in_flat_map, in_left, in_right, number_high, number_low, number_once, numbered_in, of_flat_map, to_contains}
-use Rattle.conda_encode.proofs.Literals.{by_side, off_then, off_true, off_unless, on_from, on_true, one_literal, only_literal}
+use Rattle.conda_encode.proofs.Members.{In, in_either, in_flat_map, in_left, in_right, number_high, number_low, numbered_in, of_flat_map, to_contains}
+use Rattle.conda_encode.proofs.Literals.{off_then, off_true, off_unless, on_from, on_true, one_literal, only_literal}
 use Rattle.conda_encode.proofs.Meaning.{Hold, holds}
 use Rattle.conda_encode.proofs.Sides.{Numbered}
 
@@ -47,7 +47,7 @@ numbered-append {A} s (x ∷ xs) ys =
     let e : s + 1 + length xs ≡ s + suc (length xs) = omega arith in
     let ih : numbered (s + 1) (xs ++ ys) ≡ numbered (s + 1) xs ++ numbered (s + 1 + length xs) ys = numbered-append (s + 1) xs ys in
     let step : numbered (s + 1) xs ++ numbered (s + 1 + length xs) ys ≡ numbered (s + 1) xs ++ numbered (s + suc (length xs)) ys
-             = ap (λ n. numbered (s + 1) xs ++ numbered n ys) e in
+    = ap (λ n. numbered (s + 1) xs ++ numbered n ys) e in
     ap (λ zs. (s, x) ∷ zs) (ih ∙ step)
 
 -- ---- one pool
@@ -87,22 +87,22 @@ in_pool name n s recs i r lt h =
 pub chain_from : (v : ℕ → Bool) (name : List ℕ) (n s : ℕ) (recs : List PkgRecord) → Hold v (one_of name n s recs) → Chain v n s (length recs)
 chain_from v name n s recs hold = record {
   first = λ i lt h.
-    then_on v (n + i) (s + i) (hold (Why.One name, off (n + i) ∷ on (s + i) ∷ []) (in_pool name n s recs i (Why.One name, off (n + i) ∷ on (s + i) ∷ []) lt (inl refl))) h;
+      then_on v (n + i) (s + i) (hold (Why.One name, off (n + i) ∷ on (s + i) ∷ []) (in_pool name n s recs i (Why.One name, off (n + i) ∷ on (s + i) ∷ []) lt (inl refl))) h;
   next = λ i lt h.
-    let r : Reason = (Why.One name, off (s + i) ∷ on (s + i + 1) ∷ []) in
-    let more : nat_lt (i + 2) (length recs) ≡ true = lt-ltb (i + 2) (length recs) lt in
-    then_on v (s + i) (s + i + 1) (hold r (in_pool name n s recs i r (omega arith)
+      let r : Reason = (Why.One name, off (s + i) ∷ on (s + i + 1) ∷ []) in
+      let more : nat_lt (i + 2) (length recs) ≡ true = lt-ltb (i + 2) (length recs) lt in
+      then_on v (s + i) (s + i + 1) (hold r (in_pool name n s recs i r (omega arith)
       (in_middle r (nat_lt (i + 2) (length recs)) (Why.One name, off (n + i) ∷ on (s + i) ∷ []) (Why.One name, off (n + i + 1) ∷ off (s + i) ∷ []) more))) h;
   last = λ i lt h k.
-    let r : Reason = (Why.One name, off (n + i + 1) ∷ off (s + i) ∷ []) in
-    then_off v (n + i + 1) (s + i) (hold r (in_pool name n s recs i r lt
+      let r : Reason = (Why.One name, off (n + i + 1) ∷ off (s + i) ∷ []) in
+      then_off v (n + i + 1) (s + i) (hold r (in_pool name n s recs i r lt
       (in_last (nat_lt (i + 2) (length recs)) (Why.One name, off (n + i) ∷ on (s + i) ∷ []) (Why.One name, off (s + i) ∷ on (s + i + 1) ∷ []) r))) h k;
 }
 
 pub chain_hold : (v : ℕ → Bool) (name : List ℕ) (n s : ℕ) (recs : List PkgRecord) → 1 ≤ n → 1 ≤ s → Chain v n s (length recs) → Hold v (one_of name n s recs)
 chain_hold v name n s recs low high chain r i =
     let w : (x : ℕ × PkgRecord) × In x (numbered 0 (drop 1 recs)) × In r (one_at name n s (length recs) x)
-          = of_flat_map (one_at name n s (length recs)) (numbered 0 (drop 1 recs)) r i in
+    = of_flat_map (one_at name n s (length recs)) (numbered 0 (drop 1 recs)) r i in
     let j : ℕ = w.0.0 in
     let end : w.0.0 < 0 + length (drop 1 recs) = number_high 0 (drop 1 recs) w.0 w.1 in
     let lt : w.0.0 + 1 < length recs = omega (arith, length-drop 1 recs) in
@@ -201,18 +201,18 @@ pub ones_once : (v : ℕ → Bool) (n s : ℕ) (pools : List NamePool) → Own p
 ones_once v n s [] o hold x y a b same = absurd a.0
 ones_once v n s (pool ∷ rest) o hold x y a b same =
     let chain : Chain v n s (length pool.recs)
-          = chain_from v pool.name n s pool.recs (λ r i. hold r (in_left (one_of pool.name n s pool.recs) (ones (n + length pool.recs) (s + helpers_of pool) rest) r i)) in
+    = chain_from v pool.name n s pool.recs (λ r i. hold r (in_left (one_of pool.name n s pool.recs) (ones (n + length pool.recs) (s + helpers_of pool) rest) r i)) in
     let later : Hold v (ones (n + length pool.recs) (s + helpers_of pool) rest)
-          = λ r i. hold r (in_right (one_of pool.name n s pool.recs) (ones (n + length pool.recs) (s + helpers_of pool) rest) r i) in
+    = λ r i. hold r (in_right (one_of pool.name n s pool.recs) (ones (n + length pool.recs) (s + helpers_of pool) rest) r i) in
     elim (split_number n pool.recs (records rest) x a.0) [
       | inl i ↦ elim (split_number n pool.recs (records rest) y b.0) [
-          | inl j ↦ one_chosen v n s (length pool.recs) chain x.0 y.0 (number_low n pool.recs x i) (number_high n pool.recs x i) (number_low n pool.recs y j) (number_high n pool.recs y j) a.1 b.1
-          | inr j ↦ absurd (other_names pool rest o x.1 y.1 (numbered_in n pool.recs x i) (numbered_in (n + length pool.recs) (records rest) y j) same)
-        ]
+        | inl j ↦ one_chosen v n s (length pool.recs) chain x.0 y.0 (number_low n pool.recs x i) (number_high n pool.recs x i) (number_low n pool.recs y j) (number_high n pool.recs y j) a.1 b.1
+        | inr j ↦ absurd (other_names pool rest o x.1 y.1 (numbered_in n pool.recs x i) (numbered_in (n + length pool.recs) (records rest) y j) same)
+      ]
       | inr i ↦ elim (split_number n pool.recs (records rest) y b.0) [
-          | inl j ↦ absurd (other_names pool rest o y.1 x.1 (numbered_in n pool.recs y j) (numbered_in (n + length pool.recs) (records rest) x i) (sym same))
-          | inr j ↦ ones_once v (n + length pool.recs) (s + helpers_of pool) rest (rest_own pool rest o) later x y (i, a.1) (j, b.1) same
-        ]
+        | inl j ↦ absurd (other_names pool rest o y.1 x.1 (numbered_in n pool.recs y j) (numbered_in (n + length pool.recs) (records rest) x i) (sym same))
+        | inr j ↦ ones_once v (n + length pool.recs) (s + helpers_of pool) rest (rest_own pool rest o) later x y (i, a.1) (j, b.1) same
+      ]
     ]
 
 -- ---- the helpers as they are meant
@@ -283,7 +283,7 @@ upto_one w n pool rest o once a b lt short h g =
     let i = subst P (sym (numbered-append n pool.recs (records rest))) (in_left (numbered n pool.recs) (numbered (n + length pool.recs) (records rest)) (n + a, x.0) x.1) in
     let j = subst Q (sym (numbered-append n pool.recs (records rest))) (in_left (numbered n pool.recs) (numbered (n + length pool.recs) (records rest)) (n + b, y.0) y.1) in
     let e : n + a ≡ n + b = once (n + a, x.0) (n + b, y.0) (i, h) (j, g)
-          (o.own pool (inl refl) x.0 (numbered_in n pool.recs (n + a, x.0) x.1) ∙ sym (o.own pool (inl refl) y.0 (numbered_in n pool.recs (n + b, y.0) y.1))) in
+    (o.own pool (inl refl) x.0 (numbered_in n pool.recs (n + a, x.0) x.1) ∙ sym (o.own pool (inl refl) y.0 (numbered_in n pool.recs (n + b, y.0) y.1))) in
     omega arith
 
 pub ones_hold : (w u : ℕ → Bool) (n s : ℕ) (pools : List NamePool) → 1 ≤ n → n + length (records pools) ≤ s → Own pools →
@@ -298,26 +298,26 @@ ones_hold w u n s (pool ∷ rest) low far o once sides helpers r i =
     let chain : Chain u n s k = record {
       first = λ j lt h. helper j lt ∙ upto_here w n j (sym (at j (omega arith)) ∙ h);
       next = λ j lt h.
-        let e : s + (j + 1) ≡ s + j + 1 = omega arith in
-        let P : ℕ → Type 0 = λ t. u t ≡ true in
-        subst P e (helper (j + 1) (omega arith) ∙ upto_more w n j (sym (helper j (omega arith)) ∙ h));
+          let e : s + (j + 1) ≡ s + j + 1 = omega arith in
+          let P : ℕ → Type 0 = λ t. u t ≡ true in
+          subst P e (helper (j + 1) (omega arith) ∙ upto_more w n j (sym (helper j (omega arith)) ∙ h));
       last = λ j lt h g.
-        let m : (t : ℕ) × (t ≤ j) × (w (n + t) ≡ true) = upto_some w n j (sym (helper j lt) ∙ g) in
-        let e : n + j + 1 ≡ n + (j + 1) = omega arith in
-        let P : ℕ → Type 0 = λ t. u t ≡ true in
-        upto_one w n pool rest o once m.0 (j + 1) (omega (arith, m.1)) lt m.2 (sym (at (j + 1) lt) ∙ subst P e h);
+          let m : (t : ℕ) × (t ≤ j) × (w (n + t) ≡ true) = upto_some w n j (sym (helper j lt) ∙ g) in
+          let e : n + j + 1 ≡ n + (j + 1) = omega arith in
+          let P : ℕ → Type 0 = λ t. u t ≡ true in
+          upto_one w n pool rest o once m.0 (j + 1) (omega (arith, m.1)) lt m.2 (sym (at (j + 1) lt) ∙ subst P e h);
     } in
     elim (in_either (one_of pool.name n s pool.recs) (ones (n + k) (s + helpers_of pool) rest) r i) [
       | inl a ↦ chain_hold u pool.name n s pool.recs low (omega arith) chain r a
       | inr a ↦
           ones_hold w u (n + k) (s + helpers_of pool) rest (omega arith) (omega (arith, total)) (rest_own pool rest o)
           (λ x y f g same.
-            let P : List Numbered → Type 0 = λ zs. In x zs in
-            let Q : List Numbered → Type 0 = λ zs. In y zs in
-            once x y
-            (subst P (sym (numbered-append n pool.recs (records rest))) (in_right (numbered n pool.recs) (numbered (n + k) (records rest)) x f.0), f.1)
-            (subst Q (sym (numbered-append n pool.recs (records rest))) (in_right (numbered n pool.recs) (numbered (n + k) (records rest)) y g.0), g.1)
-            same)
+          let P : List Numbered → Type 0 = λ zs. In x zs in
+          let Q : List Numbered → Type 0 = λ zs. In y zs in
+          once x y
+          (subst P (sym (numbered-append n pool.recs (records rest))) (in_right (numbered n pool.recs) (numbered (n + k) (records rest)) x f.0), f.1)
+          (subst Q (sym (numbered-append n pool.recs (records rest))) (in_right (numbered n pool.recs) (numbered (n + k) (records rest)) y g.0), g.1)
+          same)
           (λ m lt. sides m (omega (arith, total)))
           (λ h start. helpers h (omega arith) ∙ helper_later w n s pool rest h start)
           r a

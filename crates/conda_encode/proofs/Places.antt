@@ -1,25 +1,24 @@
 -- What a specification names or bars lies in the pool of its name.
-use Rattle.std.proofs.Common.{◌≡◌, ◌≢◌, ℕ, zero, suc, ◌+◌, ◌≤◌, ◌<◌, ◌==◌, nat_eq, ℤ, Bool, true, false, not, ◌&&◌, ◌||◌, cond, List, [], ◌∷◌, ◌++◌, length, map, filter, take, get_or, refl, sym, ap, ◌∙◌, subst, ◌⊎◌, inl, inr, true≢false, arith, eqb-true}
-use Rattle.std.proofs.lemmas.Bool.{and_parts, and_from, or_parts}
+use Rattle.std.proofs.Common.{◌≡◌, ◌≢◌, ℕ, zero, suc, ◌+◌, ◌<◌, ◌==◌, ℤ, Bool, true, false, not, ◌&&◌, cond, List, [], ◌∷◌, ◌++◌, length, map, filter, take, get_or, refl, sym, ap, ◌∙◌, inl, inr, true≢false, arith, eqb-true}
+use Rattle.std.proofs.lemmas.Bool.{and_parts, or_parts}
 use Rattle.std.proofs.lemmas.Bool.Decides.{Decides-eqb}
 use Rattle.std.proofs.lemmas.List.{append-nil, length-append, map-append}
 use Rattle.std.proofs.lemmas.List.Elements.{filter-append}
 use Rattle.std.proofs.lemmas.Slice.Eq.{slice_eq-Decides}
 use Rattle.std.specs.Bool.{Decides}
-use Rattle.std.specs.List.{All, AllPairs, Contains, flat_map, list_any}
+use Rattle.std.specs.List.{list_any}
 use Rattle.conda_base.specs.Signs.{star}
 use Rattle.conda_base.specs.Texts.{is_byte, is_text}
 use Rattle.conda_clause.specs.Glob.{begins, glob_matches, some_end}
-use Rattle.conda_spec.specs.Match.{allows, spec_matches}
 use Rattle.conda_spec.specs.Parts.{Parts}
 use Rattle.conda_record.specs.declared.pkg_record.PkgRecord.{PkgRecord}
 use Rattle.conda_record.specs.declared.pool.NamePool.{NamePool}
 use Rattle.conda_encode.specs.Clauses.{each_barred, off, on, some_named}
-use Rattle.conda_encode.specs.Matching.{bars, is_of_name, looks, lowered, names}
+use Rattle.conda_encode.specs.Matching.{bars, is_of_name, lowered, names}
 use Rattle.conda_encode.specs.Variables.{IsPlain, numbered, records}
 use Rattle.conda_encode.proofs.Kept.{kept, unnamed}
 use Rattle.conda_encode.proofs.Literals.{by_side}
-use Rattle.conda_encode.proofs.Members.{In, in_flat_map, of_flat_map, to_contains}
+use Rattle.conda_encode.proofs.Members.{In, of_flat_map}
 use Rattle.conda_encode.proofs.Ones.{Own, first_pair, numbered-append, rest_own}
 
 -- ---- names
@@ -100,8 +99,8 @@ pub kept_nowhere : (p : PkgRecord → Bool) (f : ℕ → ℤ) (n : ℕ) (name : 
     ((pool : NamePool) → In pool pools → pool.name ≡ name → ⊥) → kept p f n (records pools) ≡ []
 kept_nowhere p f n name pools o of_name none =
     kept_none p f n (records pools) (λ pkg i h.
-      let w : (pool : NamePool) × In pool pools × In pkg pool.recs = of_flat_map (λ (q : NamePool). q.recs) pools pkg i in
-      none w.0 w.1 (sym (o.own w.0 w.1 pkg w.2) ∙ sym (of_name pkg h)))
+    let w : (pool : NamePool) × In pool pools × In pkg pool.recs = of_flat_map (λ (q : NamePool). q.recs) pools pkg i in
+    none w.0 w.1 (sym (o.own w.0 w.1 pkg w.2) ∙ sym (of_name pkg h)))
 
 in_at : {A : Type 0} (xs : List A) (i : ℕ) (d : A) → i < length xs → In (get_or xs i d) xs
 in_at [] i d lt = absurd (omega arith)
@@ -113,17 +112,17 @@ pub kept_at : (p : PkgRecord → Bool) (f : ℕ → ℤ) (n : ℕ) (name : List 
 kept_at p f n name [] at d o of_name lt e = absurd (omega arith)
 kept_at p f n name (pool ∷ rest) zero d o of_name lt e =
     let none : kept p f (n + length pool.recs) (records rest) ≡ []
-          = kept_nowhere p f (n + length pool.recs) name rest (rest_own pool rest o) of_name
-            (λ q i same. first_pair (λ (a b : NamePool). a.name ≢ b.name) pool q rest o.apart i (e ∙ sym same)) in
+    = kept_nowhere p f (n + length pool.recs) name rest (rest_own pool rest o) of_name
+    (λ q i same. first_pair (λ (a b : NamePool). a.name ≢ b.name) pool q rest o.apart i (e ∙ sym same)) in
     let z : n ≡ n + 0 = omega arith in
     kept_append p f n pool.recs (records rest) ∙ ap (λ zs. kept p f n pool.recs ++ zs) none ∙ append-nil (kept p f n pool.recs) ∙ ap (λ k. kept p f k pool.recs) z
 kept_at p f n name (pool ∷ rest) (suc at) d o of_name lt e =
     let none : kept p f n pool.recs ≡ []
-          = kept_none p f n pool.recs (λ pkg i h.
-              first_pair (λ (a b : NamePool). a.name ≢ b.name) pool (get_or rest at d) rest o.apart (in_at rest at d (omega arith))
-              (sym (o.own pool (inl refl) pkg i) ∙ sym (of_name pkg h) ∙ sym e)) in
+    = kept_none p f n pool.recs (λ pkg i h.
+    first_pair (λ (a b : NamePool). a.name ≢ b.name) pool (get_or rest at d) rest o.apart (in_at rest at d (omega arith))
+    (sym (o.own pool (inl refl) pkg i) ∙ sym (of_name pkg h) ∙ sym e)) in
     let ih : kept p f (n + length pool.recs) (records rest) ≡ kept p f (n + length pool.recs + length (records (take at rest))) (get_or rest at d).recs
-          = kept_at p f (n + length pool.recs) name rest at d (rest_own pool rest o) of_name (omega arith) e in
+    = kept_at p f (n + length pool.recs) name rest at d (rest_own pool rest o) of_name (omega arith) e in
     let z : n + length pool.recs + length (records (take at rest)) ≡ n + length (pool.recs ++ records (take at rest)) = omega (arith, length-append pool.recs (records (take at rest))) in
     kept_append p f n pool.recs (records rest) ∙ ap (λ zs. zs ++ kept p f (n + length pool.recs) (records rest)) none ∙ ih ∙ ap (λ k. kept p f k (get_or rest at d).recs) z
 
@@ -141,7 +140,7 @@ pub barred_at : (spec : Parts) (pools : List NamePool) (at : ℕ) (d : NamePool)
 barred_at spec pools at d o lt e =
     kept_at (bars spec) off 1 spec.name pools at d o (barred_own spec) lt e
     ∙ kept_same (bars spec) (unnamed spec) off (1 + length (records (take at pools))) (get_or pools at d).recs
-      (λ pkg i. bars_unnamed spec pkg (sym e ∙ sym (o.own (get_or pools at d) (in_at pools at d lt) pkg i)))
+    (λ pkg i. bars_unnamed spec pkg (sym e ∙ sym (o.own (get_or pools at d) (in_at pools at d lt) pkg i)))
 
 pub barred_nowhere : (spec : Parts) (pools : List NamePool) → Own pools → ((pool : NamePool) → In pool pools → pool.name ≡ spec.name → ⊥) → each_barred pools spec ≡ []
 barred_nowhere spec pools o none = kept_nowhere (bars spec) off 1 spec.name pools o (barred_own spec) none

@@ -1,8 +1,8 @@
 -- What the clauses of a request mean: their models are the solutions.
-use Rattle.std.proofs.Common.{◌≡◌, ◌≢◌, ◌↔◌, ℕ, zero, suc, ◌+◌, ◌-◌, ◌≤◌, ◌<◌, ◌==◌, nat_lt, Bool, true, false, not, cond, ◌||◌, ℤ, List, [], ◌∷◌, ◌++◌, length, map, refl, sym, ap, ◌∙◌, subst, ◌⊎◌, inl, inr, true≢false, arith, eqb-true, eq-eqb}
-use Rattle.std.proofs.lemmas.Bool.{le-ltb, lt-ltb, ne_eqb, or_cases, or_left, or_right}
+use Rattle.std.proofs.Common.{◌≡◌, ◌↔◌, ℕ, zero, suc, ◌+◌, ◌≤◌, ◌<◌, ◌==◌, nat_lt, Bool, true, false, cond, List, [], ◌∷◌, ◌++◌, length, refl, sym, ap, ◌∙◌, subst, ◌⊎◌, inl, inr, true≢false, arith, eqb-true, eq-eqb}
+use Rattle.std.proofs.lemmas.Bool.{le-ltb, lt-ltb, ne_eqb}
 use Rattle.std.proofs.lemmas.List.Folds.{list_all-map}
-use Rattle.std.specs.List.{AllPairs, Contains, list_all, list_any}
+use Rattle.std.specs.List.{AllPairs, Contains, list_any}
 use Rattle.conda_refute.specs.Literals.{clause_true}
 use Rattle.conda_record.specs.declared.pkg_record.PkgRecord.{PkgRecord}
 use Rattle.conda_record.specs.declared.pool.NamePool.{NamePool}
@@ -13,9 +13,9 @@ use Rattle.conda_encode.specs.Solution.{HaveOtherNames, IsReached, IsSolution}
 use Rattle.conda_encode.specs.Variables.{IsRequest, numbered, records, variables}
 use Rattle.conda_encode.specs.declared.asked.Asked.{Asked}
 use Rattle.conda_encode.proofs.Members.{In, all_at, all_from, any_at, any_from, from_contains, in_either, in_flat_map, in_left, in_right, number_high, number_of, number_once, to_contains}
-use Rattle.conda_encode.proofs.Cuts.{Keeps, cut_solves, solution_sides}
+use Rattle.conda_encode.proofs.Cuts.{cut_solves, solution_sides}
 use Rattle.conda_encode.proofs.Meaning.{Hold, barred_hold, holds, needed_hold, needed_met, none_barred, pinned_hold, pins_kept, wanted_hold, wanted_met}
-use Rattle.conda_encode.proofs.Ones.{Once, Own, first_pair, helper_side, ones_hold, ones_once, rest_pairs, same_or_less}
+use Rattle.conda_encode.proofs.Ones.{Own, first_pair, helper_side, ones_hold, ones_once, rest_pairs, same_or_less}
 use Rattle.conda_encode.proofs.Sides.{AreSides, IsMetBy, IsTrueOf, Numbered}
 
 -- ---- models are sides as they are asked for, and back
@@ -100,21 +100,24 @@ sides_model pools items w request sides =
     let d = ones 1 (first_helper pools) pools in
     let e = pinned pools items in
     let last : Hold v d = ones_hold w v 1 (first_helper pools) pools (omega arith) (omega arith) (own_of pools items request) sides.once
-          (λ m lt. agree m (omega arith)) (model_high pools w) in
-    (v, holds_model pools items v (λ r i.
-      elim (in_either (a ++ b ++ c ++ d) e r i) [
-        | inr h ↦ pinned_hold pools items v own.pinned r h
-        | inl i ↦ elim (in_either (a ++ b ++ c) d r i) [
-            | inr h ↦ last r h
-            | inl i ↦ elim (in_either (a ++ b) c r i) [
+    (λ m lt. agree m (omega arith)) (model_high pools w) in (
+      v,
+      holds_model pools items v (λ r i.
+          elim (in_either (a ++ b ++ c ++ d) e r i) [
+            | inr h ↦ pinned_hold pools items v own.pinned r h
+            | inl i ↦ elim (in_either (a ++ b ++ c) d r i) [
+              | inr h ↦ last r h
+              | inl i ↦ elim (in_either (a ++ b) c r i) [
                 | inr h ↦ barred_hold pools v own.barred r h
                 | inl i ↦ elim (in_either a b r i) [
-                    | inl h ↦ wanted_hold pools items v own.wanted r h
-                    | inr h ↦ needed_hold pools v own.needed r h
-                  ]
+                  | inl h ↦ wanted_hold pools items v own.wanted r h
+                  | inr h ↦ needed_hold pools v own.needed r h
+                ]
               ]
-          ]
-      ]), agree)
+            ]
+          ]),
+      agree,
+    )
 
 -- ---- the laws
 
@@ -180,13 +183,13 @@ zipped_once recs (m ∷ ms) (k ∷ ks) z apart x y a b (inl e) (inr j) same =
     let p : m ≡ x.1 = number_once 1 recs (k, m) x z.0 a e in
     let q : w.0 ≡ y.1 = number_once 1 recs (y.0, w.0) y w.2 b refl in
     absurd (first_pair HaveOtherNames m w.0 ms apart w.1
-      (ap (λ (r : PkgRecord). lowered r.name) p ∙ same ∙ ap (λ (r : PkgRecord). lowered r.name) (sym q)))
+    (ap (λ (r : PkgRecord). lowered r.name) p ∙ same ∙ ap (λ (r : PkgRecord). lowered r.name) (sym q)))
 zipped_once recs (m ∷ ms) (k ∷ ks) z apart x y a b (inr i) (inl f) same =
     let w = member_of recs ms ks z.1 x.0 i in
     let p : m ≡ y.1 = number_once 1 recs (k, m) y z.0 b f in
     let q : w.0 ≡ x.1 = number_once 1 recs (x.0, w.0) x w.2 a refl in
     absurd (first_pair HaveOtherNames m w.0 ms apart w.1
-      (ap (λ (r : PkgRecord). lowered r.name) p ∙ sym same ∙ ap (λ (r : PkgRecord). lowered r.name) (sym q)))
+    (ap (λ (r : PkgRecord). lowered r.name) p ∙ sym same ∙ ap (λ (r : PkgRecord). lowered r.name) (sym q)))
 
 is_among : List ℕ → ℕ → Bool
 is_among ns n = list_any (λ k. k == n) ns
@@ -206,25 +209,27 @@ chooses_from : (pools : List NamePool) (items : List Asked) (set : List PkgRecor
 chooses_from pools items set solution =
     let recs = records pools in
     let z = variables_for recs set (λ m i.
-          let p = solution.of_pools m (to_contains set m i) in
-          in_flat_map (λ (q : NamePool). q.recs) pools p.0 m (from_contains pools p.0 p.1) (from_contains p.0.recs m p.3)) in
-    (is_among z.0, record {
-      only = λ x c h.
-        let w = member_of recs set z.0 z.1 x.0 (among_of z.0 x.0 h) in
-        let P : PkgRecord → Type 0 = λ r. Contains set r in
-        subst P (number_once 1 recs (x.0, w.0) x w.2 (from_contains (variables pools) x c) refl) (to_contains set w.0 w.1);
-      all = λ m c.
-        let w = number_in recs set z.0 z.1 m (from_contains set m c) in
-        (w.0, to_contains (variables pools) (w.0, m) w.2, among_from z.0 w.0 w.1);
-      once = λ x y c d a b same.
-        zipped_once recs set z.0 z.1 solution.apart x y (from_contains (variables pools) x c) (from_contains (variables pools) y d) (among_of z.0 x.0 a) (among_of z.0 y.0 b) same;
-    })
+    let p = solution.of_pools m (to_contains set m i) in
+    in_flat_map (λ (q : NamePool). q.recs) pools p.0 m (from_contains pools p.0 p.1) (from_contains p.0.recs m p.3)) in (
+      is_among z.0,
+      record {
+        only = λ x c h.
+            let w = member_of recs set z.0 z.1 x.0 (among_of z.0 x.0 h) in
+            let P : PkgRecord → Type 0 = λ r. Contains set r in
+            subst P (number_once 1 recs (x.0, w.0) x w.2 (from_contains (variables pools) x c) refl) (to_contains set w.0 w.1);
+        all = λ m c.
+            let w = number_in recs set z.0 z.1 m (from_contains set m c) in
+            (w.0, to_contains (variables pools) (w.0, m) w.2, among_from z.0 w.0 w.1);
+        once = λ x y c d a b same.
+            zipped_once recs set z.0 z.1 solution.apart x y (from_contains (variables pools) x c) (from_contains (variables pools) y d) (among_of z.0 x.0 a) (among_of z.0 y.0 b) same;
+      },
+    )
 
 -- sides that agree on the records choose the same
 agree_chooses : (pools : List NamePool) (u w : ℕ → Bool) (set : List PkgRecord) → Agree pools u w → Chooses pools w set → Chooses pools u set
 agree_chooses pools u w set agree chooses =
     let low : (x : Numbered) → Contains (variables pools) x → x.0 < first_helper pools = λ x c.
-          let lt : x.0 < 1 + length (records pools) = number_high 1 (records pools) x (from_contains (variables pools) x c) in omega arith in
+    let lt : x.0 < 1 + length (records pools) = number_high 1 (records pools) x (from_contains (variables pools) x c) in omega arith in
     let over : (x : Numbered) → Contains (variables pools) x → u x.0 ≡ true → w x.0 ≡ true = λ x c h. sym (agree x.0 (low x c)) ∙ h in
     record {
       only = λ x c h. chooses.only x c (over x c h);
@@ -258,8 +263,8 @@ decided : (P : ℕ → Type 0) (n : ℕ) → (((k : ℕ) → k < n → Decided (
 decided P zero deny = deny (λ k lt. absurd (omega arith))
 decided P (suc n) deny =
     decided P n (λ below.
-      let here : Decided (P n) → ⊥ = λ answer. deny (λ k lt. last_or P n k lt below answer) in
-      here (inr (λ p. here (inl p))))
+    let here : Decided (P n) → ⊥ = λ answer. deny (λ k lt. last_or P n k lt below answer) in
+    here (inr (λ p. here (inl p))))
 
 -- a record with this variable is true and reached
 abbrev pub IsKept : List NamePool → List Asked → (ℕ → Bool) → ℕ → Type 0
@@ -287,30 +292,37 @@ sides_below {P} (suc n) answers =
     let here : Decided (P n) = answers n (omega arith) in
     let w : ℕ → Bool = λ k. cond (k == n) (side_from here) (below.0 k) in
     let Q : ℕ → Type 0 = λ k. (w k ≡ true) ↔ P k in
-    let same : (w n ≡ side_from here) = ap (λ b. cond b (side_from here) (below.0 n)) (eq-eqb n n refl) in
-    (w, λ k lt.
-      elim (same_or_less k n) [
-        | inl e ↦ subst Q (sym e) (λ h. side_true here (sym same ∙ h), λ p. same ∙ true_side here p)
-        | inr (inl h) ↦
-            let other : w k ≡ below.0 k = ap (λ b. cond b (side_from here) (below.0 k)) (ne_eqb k n (λ e. let f : k ≡ n = e in omega arith)) in
-            (λ t. (below.1 k h).0 (sym other ∙ t), λ p. other ∙ (below.1 k h).1 p)
-        | inr (inr h) ↦ absurd (omega arith)
-      ])
+    let same : (w n ≡ side_from here) = ap (λ b. cond b (side_from here) (below.0 n)) (eq-eqb n n refl) in (
+      w,
+      λ k lt.
+          elim (same_or_less k n) [
+            | inl e ↦ subst Q (sym e) (λ h. side_true here (sym same ∙ h), λ p. same ∙ true_side here p)
+            | inr (inl h) ↦
+                let other : w k ≡ below.0 k = ap (λ b. cond b (side_from here) (below.0 k)) (ne_eqb k n (λ e. let f : k ≡ n = e in omega arith)) in
+                (λ t. (below.1 k h).0 (sym other ∙ t), λ p. other ∙ (below.1 k h).1 p)
+            | inr (inr h) ↦ absurd (omega arith)
+          ],
+    )
 
 some_cut : (pools : List NamePool) (items : List Asked) (v : ℕ → Bool) → (((set : List PkgRecord) → IsCut pools items v set → ⊥) → ⊥)
 some_cut pools items v deny =
     decided (IsKept pools items v) (first_helper pools) (λ answers.
-      let s = sides_below (first_helper pools) answers in
-      let w : ℕ → Bool = s.0 in
-      deny (chosen pools w) (w, refl, λ x c.
-        let i = from_contains (variables pools) x c in
-        let lt : x.0 < 1 + length (records pools) = number_high 1 (records pools) x i in
-        let both = s.1 x.0 (omega arith) in
-        let P : PkgRecord → Type 0 = λ r. IsReached items (chosen pools v) r in
-        (λ h. let k = both.0 h in (k.3.0, subst P (number_once 1 (records pools) k.0 x k.1 i k.2) k.3.1), λ h. both.1 (x, i, refl, h))))
+    let s = sides_below (first_helper pools) answers in
+    let w : ℕ → Bool = s.0 in
+    deny (chosen pools w) (
+      w,
+      refl,
+      λ x c.
+          let i = from_contains (variables pools) x c in
+          let lt : x.0 < 1 + length (records pools) = number_high 1 (records pools) x i in
+          let both = s.1 x.0 (omega arith) in
+          let P : PkgRecord → Type 0 = λ r. IsReached items (chosen pools v) r in
+          (λ h. let k = both.0 h in (k.3.0, subst P (number_once 1 (records pools) k.0 x k.1 i k.2) k.3.1), λ h. both.1 (x, i, refl, h)),
+    ))
 
 pub none_law : (pools : List NamePool) (items : List Asked) → IsRequest pools items →
     ((set : List PkgRecord) → IsSolution set items pools → ⊥) ↔ ((v : ℕ → Bool) → IsModel pools items v → ⊥)
-none_law pools items request =
-    (λ none v model. some_cut pools items v (λ set cut. none set (cut_solution pools items request v model set cut)),
-     λ none set solution. let m = solution_model pools items request set solution in none m.0 m.1)
+none_law pools items request = (
+  λ none v model. some_cut pools items v (λ set cut. none set (cut_solution pools items request v model set cut)),
+  λ none set solution. let m = solution_model pools items request set solution in none m.0 m.1,
+)

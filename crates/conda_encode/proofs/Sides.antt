@@ -1,18 +1,16 @@
 -- What the clauses say of the records' variables, without the clauses: the middle between models and solutions.
-use Rattle.std.proofs.Common.{◌≡◌, ◌≢◌, ℕ, Bool, true, false, not, ◌&&◌, List, [], ◌∷◌, map, filter, refl, sym, ap, ◌∙◌, ◌⊎◌, inl, inr, true≢false, nat_eq}
+use Rattle.std.proofs.Common.{◌≡◌, ℕ, Bool, true, false, not, List, filter, refl, sym, ap, true≢false}
 use Rattle.std.proofs.lemmas.Bool.{and_parts, and_from}
-use Rattle.std.specs.List.{AllPairs, Contains}
-use Rattle.std.specs.Cmp.Lexicographic.{pointwise}
-use Rattle.conda_base.specs.Texts.{is_text}
+use Rattle.std.specs.List.{Contains}
 use Rattle.conda_spec.specs.Parts.{Parts}
 use Rattle.conda_record.specs.declared.pkg_record.PkgRecord.{PkgRecord}
 use Rattle.conda_record.specs.declared.pool.NamePool.{NamePool}
 use Rattle.conda_encode.specs.Matching.{bars, is_of_name, lowered, names}
-use Rattle.conda_encode.specs.Models.{Chooses, chosen}
-use Rattle.conda_encode.specs.Solution.{HaveOtherNames, IsBound, IsMet, IsSolution, Pins, Wants}
+use Rattle.conda_encode.specs.Models.{chosen}
+use Rattle.conda_encode.specs.Solution.{IsBound, Pins, Wants}
 use Rattle.conda_encode.specs.Variables.{variables}
 use Rattle.conda_encode.specs.declared.asked.Asked.{Asked}
-use Rattle.conda_encode.proofs.Members.{In, from_contains, to_contains, number_once, of_filter, of_map, in_filter, in_map}
+use Rattle.conda_encode.proofs.Members.{In, from_contains, to_contains, of_filter, of_map, in_filter, in_map}
 
 -- a record with its variable
 abbrev pub Numbered : Type 0
@@ -60,7 +58,7 @@ in_chosen pools v x t =
 pub of_chosen : (pools : List NamePool) (v : ℕ → Bool) (m : PkgRecord) → Contains (chosen pools v) m → (x : Numbered) × IsTrueOf pools v x × (x.1 ≡ m)
 of_chosen pools v m c =
     let w : (x : Numbered) × In x (filter (λ u. v u.0) (variables pools)) × (x.1 ≡ m)
-          = of_map (λ (u : Numbered). u.1) (filter (λ u. v u.0) (variables pools)) m (from_contains (chosen pools v) m c) in
+    = of_map (λ (u : Numbered). u.1) (filter (λ u. v u.0) (variables pools)) m (from_contains (chosen pools v) m c) in
     (w.0, of_filter (λ u. v u.0) (variables pools) w.0 w.1, w.2)
 
 -- ---- names and bars

@@ -1,15 +1,15 @@
 -- The split of a specification, from the pool of its name.
-use Rattle.std.proofs.Common.{◌≡◌, ◌≢◌, ℕ, ◌+◌, ◌≤◌, ◌<◌, ◌^◌, List, [], ◌∷◌, ◌++◌, length, take, get_or, Ok, refl, sym, ap, ◌∙◌, subst, ◌⊎◌, inl, inr, arith}
+use Rattle.std.proofs.Common.{◌≡◌, ℕ, ◌+◌, ◌<◌, ◌^◌, List, [], ◌∷◌, ◌++◌, length, take, get_or, Ok, sym, ap, ◌∙◌, subst, inl, inr, arith}
 use Rattle.std.proofs.lemmas.List.{get_or_append_left, get_or_push, length-append}
 use Rattle.std.proofs.lemmas.List.Folds.{length-flat_map-take}
-use Rattle.std.specs.List.{All, flat_map}
+use Rattle.std.specs.List.{All}
 use Rattle.conda_version.specs.Text.{trimmed}
 use Rattle.conda_spec.specs.Parts.{Parts}
 use Rattle.conda_spec.specs.Reading.{spec_read}
 use Rattle.conda_record.specs.declared.pkg_record.PkgRecord.{PkgRecord}
 use Rattle.conda_record.specs.declared.pool.NamePool.{NamePool}
-use Rattle.conda_encode.specs.Clauses.{each_barred, off, on, some_named}
-use Rattle.conda_encode.specs.Known.{ArePools, HasSplit, IsKnown, IsSplit, IsSplitOf, starts_of}
+use Rattle.conda_encode.specs.Clauses.{off, on}
+use Rattle.conda_encode.specs.Known.{ArePools, IsSplit, IsSplitOf, starts_of}
 use Rattle.conda_encode.specs.Matching.{names}
 use Rattle.conda_encode.specs.Variables.{IsOneNamed, IsPlain, IsRequest, records}
 use Rattle.conda_encode.specs.declared.asked.Asked.{Asked}
@@ -61,9 +61,9 @@ split_there pools spec split name starts at pool recs are plain e one text st sa
     record {
       text = text;
       named = named ∙ ap (λ k. kept (names spec) on k recs) a ∙ ap (kept (names spec) on (1 + length (records (take at pools)))) r
-        ∙ sym (named_at spec pools at pool plain (own_pools pools are) one.0 n);
+          ∙ sym (named_at spec pools at pool plain (own_pools pools are) one.0 n);
       barred = barred ∙ ap (λ k. kept (unnamed spec) off k recs) a ∙ ap (kept (unnamed spec) off (1 + length (records (take at pools)))) r
-        ∙ sym (barred_at spec pools at pool (own_pools pools are) one.0 n);
+          ∙ sym (barred_at spec pools at pool (own_pools pools are) one.0 n);
     }
 
 -- a split whose text is read as the specification is that of the specification

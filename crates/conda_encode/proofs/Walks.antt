@@ -1,6 +1,6 @@
 -- Steps of loops that write clauses one after another.
-use Rattle.std.proofs.Common.{◌≡◌, ℕ, zero, suc, ◌+◌, ◌-◌, ◌≤◌, ◌<◌, ℤ, pos, Bool, true, false, not, cond, ◌||◌, List, [], ◌∷◌, ◌++◌, length, map, filter, take, drop, get_or, refl, sym, ap, ◌∙◌, subst, ◌⊎◌, inl, inr, arith, append_assoc, int_eq, true≢false}
-use Rattle.std.proofs.lemmas.List.{drop_all, drop_more, get_or-map, length-take-le, map-append, take_all, take_more}
+use Rattle.std.proofs.Common.{◌≡◌, ℕ, ◌+◌, ◌≤◌, ◌<◌, Bool, true, false, cond, ◌||◌, List, [], ◌∷◌, ◌++◌, length, map, filter, take, get_or, refl, sym, ap, ◌∙◌, subst, inl, inr, arith, append_assoc}
+use Rattle.std.proofs.lemmas.List.{length-take-le, map-append, take_all, take_more}
 use Rattle.std.proofs.lemmas.List.Elements.{filter-append}
 use Rattle.std.proofs.lemmas.Grind.{flat_map-append}
 use Rattle.std.specs.List.{flat_map, list_any}
@@ -9,7 +9,7 @@ use Rattle.conda_encode.proofs.Literals.{by_side}
 use Rattle.conda_encode.proofs.Members.{In}
 use Rattle.conda_encode.proofs.Ones.{numbered-append}
 
-numbered_more : {A : Type 0} (n : ℕ) (xs : List A) (i m : ℕ) (d : A) → i < length xs → m ≡ n + i →
+pub numbered_more : {A : Type 0} (n : ℕ) (xs : List A) (i m : ℕ) (d : A) → i < length xs → m ≡ n + i →
     numbered n (take (i + 1) xs) ≡ numbered n (take i xs) ++ (m, get_or xs i d) ∷ []
 numbered_more {A} n xs i m d lt e =
     let short : n + length (take i xs) ≡ m = omega (arith, length-take-le i xs) in
@@ -27,9 +27,9 @@ pub flat_more : {A B : Type 0} (f : ℕ × A → List B) (n : ℕ) (xs : List A)
 flat_more {A} {B} f n xs i m x start before after lt e at was now =
     let P : A → Type 0 = λ u. flat_map f (numbered n (take (i + 1) xs)) ≡ flat_map f (numbered n (take i xs)) ++ f (m, u) in
     let plain : flat_map f (numbered n (take (i + 1) xs)) ≡ flat_map f (numbered n (take i xs)) ++ f (m, get_or xs i x)
-              = ap (flat_map f) (numbered_more n xs i m x lt e)
-                ∙ flat_map-append f (numbered n (take i xs)) ((m, get_or xs i x) ∷ [])
-                ∙ ap (λ zs. flat_map f (numbered n (take i xs)) ++ zs) (append_nil (f (m, get_or xs i x))) in
+    = ap (flat_map f) (numbered_more n xs i m x lt e)
+    ∙ flat_map-append f (numbered n (take i xs)) ((m, get_or xs i x) ∷ [])
+    ∙ ap (λ zs. flat_map f (numbered n (take i xs)) ++ zs) (append_nil (f (m, get_or xs i x))) in
     let step : flat_map f (numbered n (take (i + 1) xs)) ≡ flat_map f (numbered n (take i xs)) ++ f (m, x) = subst P at plain in
     now ∙ ap (λ zs. zs ++ f (m, x)) was ∙ append_assoc start (flat_map f (numbered n (take i xs))) (f (m, x)) ∙ ap (λ zs. start ++ zs) (sym step)
 
@@ -48,7 +48,7 @@ pub map_more_numbered : {A B : Type 0} (f : ℕ × A → B) (n : ℕ) (xs : List
 map_more_numbered {A} {B} f n xs i m x start before after lt e at was now =
     let P : A → Type 0 = λ u. map f (numbered n (take (i + 1) xs)) ≡ map f (numbered n (take i xs)) ++ f (m, u) ∷ [] in
     let plain : map f (numbered n (take (i + 1) xs)) ≡ map f (numbered n (take i xs)) ++ f (m, get_or xs i x) ∷ []
-              = ap (map f) (numbered_more n xs i m x lt e) ∙ map-append f (numbered n (take i xs)) ((m, get_or xs i x) ∷ []) in
+    = ap (map f) (numbered_more n xs i m x lt e) ∙ map-append f (numbered n (take i xs)) ((m, get_or xs i x) ∷ []) in
     let step : map f (numbered n (take (i + 1) xs)) ≡ map f (numbered n (take i xs)) ++ f (m, x) ∷ [] = subst P at plain in
     now ∙ ap (λ zs. zs ++ f (m, x) ∷ []) was ∙ append_assoc start (map f (numbered n (take i xs))) (f (m, x) ∷ []) ∙ ap (λ zs. start ++ zs) (sym step)
 
@@ -66,14 +66,14 @@ pub filter_more : {A B : Type 0} (p : A → Bool) (f : A → B) (xs : List A) (i
     before ≡ start ++ map f (filter p (take i xs)) → after ≡ before ++ f x ∷ [] → after ≡ start ++ map f (filter p (take (i + 1) xs))
 filter_more p f xs i x start before after lt at h was now =
     let step : map f (filter p (take (i + 1) xs)) ≡ map f (filter p (take i xs)) ++ f x ∷ []
-             = ap (map f) (take_filter p xs i x lt at ∙ ap (λ b. filter p (take i xs) ++ cond b (x ∷ []) []) h) ∙ map-append f (filter p (take i xs)) (x ∷ []) in
+    = ap (map f) (take_filter p xs i x lt at ∙ ap (λ b. filter p (take i xs) ++ cond b (x ∷ []) []) h) ∙ map-append f (filter p (take i xs)) (x ∷ []) in
     now ∙ ap (λ zs. zs ++ f x ∷ []) was ∙ append_assoc start (map f (filter p (take i xs))) (f x ∷ []) ∙ ap (λ zs. start ++ zs) (sym step)
 
 pub filter_skip : {A B : Type 0} (p : A → Bool) (f : A → B) (xs : List A) (i : ℕ) (x : A) (start before : List B) → i < length xs → get_or xs i x ≡ x → p x ≡ false →
     before ≡ start ++ map f (filter p (take i xs)) → before ≡ start ++ map f (filter p (take (i + 1) xs))
 filter_skip p f xs i x start before lt at h was =
     let step : map f (filter p (take (i + 1) xs)) ≡ map f (filter p (take i xs))
-             = ap (map f) (take_filter p xs i x lt at ∙ ap (λ b. filter p (take i xs) ++ cond b (x ∷ []) []) h ∙ append_nil (filter p (take i xs))) in
+    = ap (map f) (take_filter p xs i x lt at ∙ ap (λ b. filter p (take i xs) ++ cond b (x ∷ []) []) h ∙ append_nil (filter p (take i xs))) in
     was ∙ ap (λ zs. start ++ zs) (sym step)
 
 pub filter_all : {A B : Type 0} (p : A → Bool) (f : A → B) (xs : List A) (i : ℕ) (start after : List B) → length xs ≤ i →
@@ -97,5 +97,5 @@ pub filter_step : {A B : Type 0} (p : A → Bool) (f : A → B) (xs : List A) (i
     before ≡ start ++ map f (filter p (take i xs)) → after ≡ before ++ map f (filter p (x ∷ [])) → after ≡ start ++ map f (filter p (take (i + 1) xs))
 filter_step p f xs i x start before after lt at was now =
     let step : map f (filter p (take (i + 1) xs)) ≡ map f (filter p (take i xs)) ++ map f (filter p (x ∷ []))
-             = ap (map f) (take_filter p xs i x lt at) ∙ map-append f (filter p (take i xs)) (filter p (x ∷ [])) in
+    = ap (map f) (take_filter p xs i x lt at) ∙ map-append f (filter p (take i xs)) (filter p (x ∷ [])) in
     now ∙ ap (λ zs. zs ++ map f (filter p (x ∷ []))) was ∙ append_assoc start (map f (filter p (take i xs))) (map f (filter p (x ∷ []))) ∙ ap (λ zs. start ++ zs) (sym step)

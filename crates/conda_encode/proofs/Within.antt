@@ -1,15 +1,15 @@
 -- The literals of a request's clauses are of its variables.
-use Rattle.std.proofs.Common.{◌≡◌, ℕ, zero, suc, ◌+◌, ◌-◌, ◌≤◌, ◌<◌, ◌^◌, nat_le, nat_lt, ℤ, pos, negsuc, Bool, true, false, ◌&&◌, List, [], ◌∷◌, ◌++◌, length, map, filter, drop, refl, sym, ap, ◌∙◌, subst, ◌⊎◌, inl, inr, arith}
+use Rattle.std.proofs.Common.{◌≡◌, ℕ, zero, suc, ◌+◌, ◌-◌, ◌≤◌, ◌<◌, nat_le, nat_lt, ℤ, true, List, [], ◌∷◌, ◌++◌, length, filter, drop, refl, sym, ap, ◌∙◌, subst, inl, inr, arith}
 use Rattle.std.proofs.lemmas.Bool.{and_from, le-leb, ltb-true}
-use Rattle.std.proofs.lemmas.List.{length-append, length-drop, length-map}
+use Rattle.std.proofs.lemmas.List.{length-append, length-drop}
 use Rattle.std.proofs.lemmas.List.Folds.{list_all-map}
 use Rattle.std.proofs.lemmas.List.Sums.{sum_by-cons}
-use Rattle.std.specs.List.{flat_map, list_all, sum_by}
-use Rattle.conda_encode.specs.Sides.{is_within, variable_of}
+use Rattle.std.specs.List.{list_all, sum_by}
+use Rattle.conda_encode.specs.Sides.{is_within}
 use Rattle.conda_spec.specs.Parts.{Parts}
 use Rattle.conda_record.specs.declared.pkg_record.PkgRecord.{PkgRecord}
 use Rattle.conda_record.specs.declared.pool.NamePool.{NamePool}
-use Rattle.conda_encode.specs.Clauses.{Reason, barred, barred_by, barred_entry, barred_pair, clauses, each_barred, is_other, needed, needed_by, needed_entry, off, on, one_at, one_of, one_step, ones, pinned, pinned_at, pinned_item, pinned_literal, reasons, some_named, wanted, wanted_at, wanted_item}
+use Rattle.conda_encode.specs.Clauses.{Reason, barred, barred_by, barred_entry, barred_pair, clauses, each_barred, is_other, needed, needed_by, needed_entry, off, on, one_at, one_of, ones, pinned, pinned_at, pinned_item, pinned_literal, reasons, some_named, wanted, wanted_at, wanted_item}
 use Rattle.conda_encode.specs.Matching.{bars, names}
 use Rattle.conda_encode.specs.Variables.{helpers_of, numbered, records, variables, vars_of}
 use Rattle.conda_encode.specs.declared.asked.Asked.{Asked}
@@ -47,9 +47,9 @@ low_of pools x i = number_low 1 (records pools) x i
 named_lies : (vars : ℕ) (pools : List NamePool) (spec : Parts) → Few vars pools → Lies vars (some_named pools spec)
 named_lies vars pools spec few =
     all_from (is_within vars) (some_named pools spec) (λ l i.
-      let x : (x : Numbered) × In x (filter (λ x. names spec x.1) (variables pools)) × (on x.0 ≡ l) = of_map (λ (x : Numbered). on x.0) (filter (λ x. names spec x.1) (variables pools)) l i in
-      let f = of_filter (λ (y : Numbered). names spec y.1) (variables pools) x.0 x.1 in
-      ap (is_within vars) (sym x.2) ∙ on_within vars x.0.0 (low_of pools x.0 f.0) (high_of vars pools few x.0 f.0))
+    let x : (x : Numbered) × In x (filter (λ x. names spec x.1) (variables pools)) × (on x.0 ≡ l) = of_map (λ (x : Numbered). on x.0) (filter (λ x. names spec x.1) (variables pools)) l i in
+    let f = of_filter (λ (y : Numbered). names spec y.1) (variables pools) x.0 x.1 in
+    ap (is_within vars) (sym x.2) ∙ on_within vars x.0.0 (low_of pools x.0 f.0) (high_of vars pools few x.0 f.0))
 
 barred_within : (vars : ℕ) (pools : List NamePool) (spec : Parts) → Few vars pools → (l : ℤ) → In l (each_barred pools spec) → is_within vars l ≡ true
 barred_within vars pools spec few l i =
@@ -86,11 +86,11 @@ barred_lie vars pools few r i =
     let x : (x : Numbered) × In x (variables pools) × In r (barred_by pools x) = of_flat_map (barred_by pools) (variables pools) r i in
     let c : (c : ℕ × Parts) × In c (numbered 0 x.0.1.constrains) × In r (barred_entry pools x.0.0 c) = of_flat_map (barred_entry pools x.0.0) (numbered 0 x.0.1.constrains) r x.2 in
     let l : (l : ℤ) × In l (filter (is_other x.0.0) (each_barred pools c.0.1)) × (barred_pair x.0.0 c.0.0 l ≡ r)
-          = of_map (barred_pair x.0.0 c.0.0) (filter (is_other x.0.0) (each_barred pools c.0.1)) r c.2 in
+    = of_map (barred_pair x.0.0 c.0.0) (filter (is_other x.0.0) (each_barred pools c.0.1)) r c.2 in
     let f = of_filter (is_other x.0.0) (each_barred pools c.0.1) l.0 l.1 in
     along vars (barred_pair x.0.0 c.0.0 l.0) r l.2
     (more_lies vars (off x.0.0) (l.0 ∷ []) (off_within vars x.0.0 (low_of pools x.0 x.1) (high_of vars pools few x.0 x.1))
-      (more_lies vars l.0 [] (barred_within vars pools c.0.1 few l.0 f.0) refl))
+    (more_lies vars l.0 [] (barred_within vars pools c.0.1 few l.0 f.0) refl))
 
 pinned_at_lie : (vars : ℕ) (pools : List NamePool) (kind : AskKind) (spec : Parts) (n : ℕ) → Few vars pools → Lie vars (pinned_at pools kind spec n)
 pinned_at_lie vars pools Wanted spec n few r i = absurd i
@@ -142,15 +142,15 @@ all_lie pools items r i =
     elim (in_either (a ++ b ++ c ++ d) e r i) [
       | inr h ↦ pinned_lie vars pools items few r h
       | inl i ↦ elim (in_either (a ++ b ++ c) d r i) [
-          | inr h ↦ ones_lie vars 1 (length (records pools) + 1) pools (omega arith) (omega arith) (omega arith) (omega arith) r h
-          | inl i ↦ elim (in_either (a ++ b) c r i) [
-              | inr h ↦ barred_lie vars pools few r h
-              | inl i ↦ elim (in_either a b r i) [
-                  | inl h ↦ wanted_lie vars pools items few r h
-                  | inr h ↦ needed_lie vars pools few r h
-                ]
-            ]
+        | inr h ↦ ones_lie vars 1 (length (records pools) + 1) pools (omega arith) (omega arith) (omega arith) (omega arith) r h
+        | inl i ↦ elim (in_either (a ++ b) c r i) [
+          | inr h ↦ barred_lie vars pools few r h
+          | inl i ↦ elim (in_either a b r i) [
+            | inl h ↦ wanted_lie vars pools items few r h
+            | inr h ↦ needed_lie vars pools few r h
+          ]
         ]
+      ]
     ]
 
 pub clauses_within : (pools : List NamePool) (items : List Asked) → list_all (list_all (is_within (vars_of pools))) (clauses pools items) ≡ true

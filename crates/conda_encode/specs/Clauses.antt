@@ -1,5 +1,5 @@
 -- A request as clauses: this project's own. Each clause stands beside the reason for it.
-use Rattle.std.specs.Prelude.{ℕ, ◌+◌, nat_lt, ℤ, pos, neg_ℤ, Bool, true, false, not, List, [], ◌∷◌, ◌++◌, length, map, filter, drop, if◌then◌else◌}
+use Rattle.std.specs.Prelude.{ℕ, ◌+◌, nat_lt, ℤ, pos, neg_ℤ, Bool, not, List, [], ◌∷◌, ◌++◌, length, map, filter, drop, if◌then◌else◌}
 use Rattle.std.specs.List.{flat_map}
 use Rattle.std.specs.Ordering.{int_eq}
 use Rattle.conda_spec.specs.Parts.{Parts}

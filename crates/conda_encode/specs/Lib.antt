@@ -5,3 +5,4 @@ pub mod Clauses
 pub mod Models
 pub mod Sides
 pub mod Known
+pub mod Marks

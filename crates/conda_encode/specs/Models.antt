@@ -23,11 +23,11 @@ abbrev pub IsCut : List NamePool → List Asked → (ℕ → Bool) → List PkgR
 IsCut pools items v set =
     (w : ℕ → Bool) × (set ≡ chosen pools w) ×
     ((x : ℕ × PkgRecord) → Contains (variables pools) x →
-      (w x.0 ≡ true) ↔ ((v x.0 ≡ true) × IsReached items (chosen pools v) x.1))
+    (w x.0 ≡ true) ↔ ((v x.0 ≡ true) × IsReached items (chosen pools v) x.1))
 
 -- the variables choose the members of the set, each by one variable
 pub record Chooses (pools : List NamePool) (v : ℕ → Bool) (set : List PkgRecord) : Type 0 where
   pub only : (x : ℕ × PkgRecord) → Contains (variables pools) x → v x.0 ≡ true → Contains set x.1
   pub all : (m : PkgRecord) → Contains set m → (n : ℕ) × Contains (variables pools) (n, m) × (v n ≡ true)
   pub once : (x y : ℕ × PkgRecord) → Contains (variables pools) x → Contains (variables pools) y →
-    v x.0 ≡ true → v y.0 ≡ true → lowered x.1.name ≡ lowered y.1.name → x.0 ≡ y.0
+      v x.0 ≡ true → v y.0 ≡ true → lowered x.1.name ≡ lowered y.1.name → x.0 ≡ y.0

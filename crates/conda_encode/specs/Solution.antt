@@ -1,6 +1,6 @@
 -- Which packages can be chosen together: after conda's resolve.py, with pinned specifications as conda has them. It is a test of a
 -- finished set, and knows no clause.
-use Rattle.std.specs.Prelude.{◌≡◌, ◌≢◌, ℕ, true, List}
+use Rattle.std.specs.Prelude.{◌≡◌, ◌≢◌, true, List}
 use Rattle.std.specs.List.{AllPairs, Contains}
 use Rattle.conda_spec.specs.Parts.{Parts}
 use Rattle.conda_record.specs.declared.pkg_record.PkgRecord.{PkgRecord}
@@ -36,7 +36,7 @@ Pins items spec = (item : Asked) × Contains items item × (item.kind ≡ Pinned
 pub data IsReached (items : List Asked) (set : List PkgRecord) : PkgRecord → Type 0 where
   wanted : (spec : Parts) (m : PkgRecord) → Wants items spec → Contains set m → names spec m ≡ true → IsReached items set m
   needed : (n : PkgRecord) (spec : Parts) (m : PkgRecord) → IsReached items set n → Contains n.depends spec
-    → Contains set m → names spec m ≡ true → IsReached items set m
+      → Contains set m → names spec m ≡ true → IsReached items set m
 
 -- ---- the rules
 

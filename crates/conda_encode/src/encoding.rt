@@ -17,11 +17,7 @@ use conda_record::NamePool;
 use std::alloc::{AllocError, Global};
 
 /// The clauses of a request with their reasons, and the number of variables.
-fn written(
-    alloc: Global,
-    pools: &[NamePool],
-    items: &[Asked],
-) -> Result<(Written, u32), AllocError>
+fn written(alloc: Global, pools: &[NamePool], items: &[Asked]) -> Result<(Written, u32), AllocError>
     requires { IsRequest pools.now items.now }
     ensures written { IfOk result (λ r. r.0 ≡ reasons pools.now items.now) }
     ensures vars { IfOk result (λ r. r.1 ≡ vars_of pools.now) }

@@ -199,7 +199,14 @@ impl Known {
             return Ok(at);
         }
         let key = text.copy()?;
-        let split = split_of(alloc, &self.places, self.starts.as_slice(), pools, spec, text)?;
+        let split = split_of(
+            alloc,
+            &self.places,
+            self.starts.as_slice(),
+            pools,
+            spec,
+            text,
+        )?;
         let at = self.splits.len();
         self.splits.push(split)?;
         self.found.insert(key, at)?;

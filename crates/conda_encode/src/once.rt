@@ -89,7 +89,14 @@ fn write_one_of(
     let count = recs.len();
     for at in 0..count.saturating_sub(1) {
         let more = at + 2 < count;
-        write_one_step(alloc, name, number + at as u32, helper + at as u32, more, written)?;
+        write_one_step(
+            alloc,
+            name,
+            number + at as u32,
+            helper + at as u32,
+            more,
+            written,
+        )?;
     }
     Ok(())
 }

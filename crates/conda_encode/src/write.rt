@@ -196,7 +196,13 @@ fn write_barred_entry(
         ≡ written.old ++ barred_entry pools.now rec (entry, spec.now)) }
 {
     let at = known.split(alloc, pools, spec)?;
-    write_barred_pairs(alloc, rec, entry, known.splits[at].barred.as_slice(), written)
+    write_barred_pairs(
+        alloc,
+        rec,
+        entry,
+        known.splits[at].barred.as_slice(),
+        written,
+    )
 }
 
 /// The clauses of the entries of `constrains` of a record.
@@ -241,7 +247,14 @@ pub fn write_barred(
 {
     for (at, rec) in recs.iter().enumerate() {
         let number = at as u32 + 1;
-        write_barred_by(alloc, pools, number, rec.constrains.as_slice(), known, written)?;
+        write_barred_by(
+            alloc,
+            pools,
+            number,
+            rec.constrains.as_slice(),
+            known,
+            written,
+        )?;
     }
     Ok(())
 }

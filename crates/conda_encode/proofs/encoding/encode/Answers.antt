@@ -16,7 +16,7 @@ pub returns-clause-within : goal.returns-clause-within
 returns-clause-within c =
     let made : List (List ℤ) = c.into_parts-whys.result.1 in
     let same : made ≡ clauses c.args.pools.now c.args.asked.now
-             = c.into_parts-whys.ensures.clauses ∙ ap (map (λ (r : Reason). r.1)) c.in_ok-written.ensures.written in
+    = c.into_parts-whys.ensures.clauses ∙ ap (map (λ (r : Reason). r.1)) c.in_ok-written.ensures.written in
     ap (λ (v : ℕ). list_all (list_all (is_within v)) made) c.in_ok-written.ensures.vars
     ∙ ap (λ (cs : List (List ℤ)). list_all (list_all (is_within (length (records c.args.pools.now) + sum_by helpers_of c.args.pools.now))) cs) same
     ∙ clauses_within c.args.pools.now c.args.asked.now

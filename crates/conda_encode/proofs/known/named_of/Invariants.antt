@@ -1,4 +1,4 @@
-use Rattle.std.proofs.Common.{◌≡◌, not, take}
+use Rattle.std.proofs.Common.{◌≡◌, take}
 use Rattle.conda_encode.specs.Clauses.{on}
 use Rattle.conda_encode.specs.Matching.{names}
 use Rattle.conda_encode.proofs.Kept.{kept}

@@ -1,4 +1,3 @@
-use Rattle.conda_encode.proofs.Within.{clauses_within}
 use Rattle.conda_encode.proofs.Requests.{cut_solution, none_law, same_model, solution_model}
 use Rattle.conda_encode.proofs.laws.encode_laws.Goals as goal
 

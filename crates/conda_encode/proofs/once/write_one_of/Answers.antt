@@ -1,4 +1,4 @@
-use Rattle.std.proofs.Common.{◌≡◌, ◌<◌, ◌+◌, ◌-◌, ℕ, arith, drop, length, sym}
+use Rattle.std.proofs.Common.{◌≡◌, ◌<◌, ◌+◌, arith, drop, length}
 use Rattle.std.proofs.lemmas.List.{length-drop}
 use Rattle.conda_encode.specs.Clauses.{one_at}
 use Rattle.conda_encode.proofs.Bounds.{pick}
