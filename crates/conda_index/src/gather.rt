@@ -1,0 +1,90 @@
+ghost use Rattle.std.specs.Prelude.{◌≡◌, ℕ, List, ◌∷◌, ◌++◌, [], IfOk, OnOk, map, true};
+ghost use Rattle.std.specs.List.{AllByRecursion};
+ghost use Rattle.conda_path.specs.Dists.{is_dist};
+ghost use Rattle.conda_record.specs.declared.pkg_record.PkgRecord.{PkgRecord};
+ghost use Rattle.conda_index.specs.Pools.{given, virtual_dist, virtual_record};
+ghost use Rattle.conda_index.specs.Gather.{IsGathered, gathered, next_first, real_virtuals};
+
+use crate::names::{is_virtual_name, lowered};
+use crate::virtuals::{Virtual, record_of};
+use conda_base::{Copied, Text};
+use conda_record::PkgRecord;
+use conda_repodata::Repodata;
+use indexmap::IndexMap;
+use std::alloc::{AllocError, Global};
+
+/// The records that were met and aren't hidden, and the first channel of each name that was met,
+/// in lower case.
+#[derive(Drop)]
+struct Gathered {
+    firsts: IndexMap<Text, Text>,
+    records: Vec<PkgRecord>,
+}
+
+/// Whether a channel is the first that has records of a name, which it is from now on if the name
+/// is new.
+fn is_first(
+    firsts: &mut IndexMap<Text, Text>,
+    name: Text,
+    channel: &Text,
+) -> Result<bool, AllocError>
+{
+    match firsts.get(&name) {
+        Some(first) => Ok(first == channel),
+        None => {
+            firsts.insert(name, channel.copy()?)?;
+            Ok(true)
+        }
+    }
+}
+
+impl Gathered {
+    /// Takes a record, unless it is hidden or has the name of virtual packages.
+    fn take(&mut self, alloc: Global, pkg: PkgRecord) -> Result<(), AllocError> {
+        let name = lowered(alloc, pkg.name.as_str())?;
+        let is_virtual = is_virtual_name(name.as_str());
+        let is_shown = is_first(&mut self.firsts, name, &pkg.channel)?;
+        if is_shown && !is_virtual {
+            self.records.push(pkg)?;
+        }
+        Ok(())
+    }
+
+    /// Takes the records of a part.
+    fn take_part(&mut self, alloc: Global, part: Repodata) -> Result<(), AllocError> {
+        let Repodata { recs, .. } = part;
+        for pkg in recs.into_vec() {
+            self.take(alloc, pkg)?;
+        }
+        Ok(())
+    }
+}
+
+/// The records of the parts that aren't hidden, without those that have the names of virtual
+/// packages.
+pub fn shown_records(alloc: Global, parts: Vec<Repodata>) -> Result<Vec<PkgRecord>, AllocError> {
+    let mut gathered = Gathered {
+        firsts: IndexMap::new(alloc),
+        records: Vec::new(alloc),
+    };
+    for part in parts {
+        gathered.take_part(alloc, part)?;
+    }
+    let Gathered { records, .. } = gathered;
+    Ok(records)
+}
+
+/// Takes the records of the virtual packages that have the names of such.
+pub fn take_virtuals(
+    alloc: Global,
+    virtuals: Vec<Virtual>,
+    records: &mut Vec<PkgRecord>,
+) -> Result<(), AllocError>
+{
+    for virtual_package in virtuals {
+        if is_virtual_name(virtual_package.name.as_str()) {
+            records.push(record_of(alloc, virtual_package)?)?;
+        }
+    }
+    Ok(())
+}

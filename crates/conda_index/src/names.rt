@@ -1,0 +1,42 @@
+ghost use Rattle.std.specs.Prelude.{◌≡◌, IfOk};
+ghost use Rattle.std.specs.Cmp.Lexicographic.{slice_cmp};
+ghost use Rattle.std.specs.Ordering.{nat_cmp};
+ghost use Rattle.conda_index.specs.Names as names;
+
+use conda_base::Text;
+use std::alloc::{AllocError, Global};
+use std::cmp::Ordering;
+
+/// The name in lower case.
+pub fn lowered(alloc: Global, name: &str) -> Result<Text, AllocError>
+    ensures { IfOk result (λ text. text ≡ names.lowered name.now) }
+{
+    Ok(Text::from_string(name.to_ascii_lowercase(alloc)?))
+}
+
+/// Whether virtual packages have such a name.
+pub fn is_virtual_name(name: &str) -> bool
+    ensures { result ≡ names.is_virtual_name name.now }
+{
+    match name.as_bytes() {
+        [b'_', b'_', ..] => true,
+        _ => false,
+    }
+}
+
+/// The order of two names, compared in lower case. It takes no memory.
+pub fn compare_names(first: &str, second: &str) -> Ordering
+    ensures { result ≡ slice_cmp nat_cmp (names.lowered first.now) (names.lowered second.now) }
+{
+    let first = first.as_bytes();
+    let second = second.as_bytes();
+    for at in 0..first.len().min(second.len()) {
+        let order = first[at]
+            .to_ascii_lowercase()
+            .cmp(&second[at].to_ascii_lowercase());
+        if order.is_ne() {
+            return order;
+        }
+    }
+    first.len().cmp(&second.len())
+}
