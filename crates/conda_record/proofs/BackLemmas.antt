@@ -66,6 +66,7 @@ written law (parts ∷ specs) free back =
 
 pub reads_back : Laws → (pkg : PkgRecord) → IsWellFormed pkg → AllByRecursion ReadsBack pkg.depends → AllByRecursion ReadsBack pkg.constrains
     → record_read (record_data pkg) pkg.dist pkg.channel pkg.subdir ≡ Ok pkg
+unfolding record_data
 reads_back law pkg h depends constrains =
     let s = shows pkg.noarch pkg in
     (record_law law (record_data pkg) pkg.dist pkg.channel pkg.subdir pkg).1

@@ -278,6 +278,7 @@ all_ok (Err f) n v b k ds cs p made pkg e = cc e
 
 record_ok : Laws → (value : Data) (file channel subdir : List ℕ) (pkg : PkgRecord) → record_read value file channel subdir ≡ Ok pkg
     → IsRecord value file channel subdir pkg
+unfolding record_read
 record_ok law value file channel subdir pkg e =
     let a = all_ok (dist_read file) (name_read value) (version_field_read value) (build_read value) (build_number_read value) (depends_read value) (constrains_read value) (subdir_read subdir value) (package_of channel value) pkg e in
     let made = package_of channel value a.d a.n a.v a.b a.k a.ds a.cs a.p in
@@ -327,6 +328,7 @@ all_back dist name version build number depends constrains place made d n v b k 
 
 record_back : Laws → (value : Data) (file channel subdir : List ℕ) (pkg : PkgRecord) → IsRecord value file channel subdir pkg
     → record_read value file channel subdir ≡ Ok pkg
+unfolding record_read
 record_back law value file channel subdir pkg h =
     all_back (dist_read file) (name_read value) (version_field_read value) (build_read value) (build_number_read value) (depends_read value) (constrains_read value) (subdir_read subdir value) (package_of channel value)
     pkg.dist pkg.name pkg.version pkg.build pkg.build_number pkg.depends pkg.constrains subdir

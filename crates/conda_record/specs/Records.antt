@@ -119,7 +119,7 @@ same_dist pkg =
     if is_of_parts pkg.dist pkg.name pkg.version pkg.build then Ok pkg else Err RecordField.Fn
 
 -- the record that a value means, which stands for a file in the subdir of a channel
-abbrev pub record_read : Data → List ℕ → List ℕ → List ℕ → Read PkgRecord RecordField
+unfoldable pub record_read : Data → List ℕ → List ℕ → List ℕ → Read PkgRecord RecordField
 record_read value file channel subdir = do
   dist ← dist_read file
   name ← name_read value
@@ -173,7 +173,7 @@ record_members noarch pkg =
     (member (codes "timestamp") (number (unsigned pkg.timestamp))
     (member (codes "version") (string pkg.version) no_members))))))))))
 
-abbrev pub record_data : PkgRecord → Data
+unfoldable pub record_data : PkgRecord → Data
 record_data pkg = object (record_members pkg.noarch pkg)
 
 -- the package's key in the cache

@@ -14,6 +14,7 @@ use serde_json::Value;
 use std::alloc::Global;
 
 impl PkgRecord {
+    #[tactic(auto, unfolding(crate::specs::Records::record_read))]
     /// Reads the record of a package file in the subdir of a channel. The file's name is a dist,
     /// with the ending of a package file (`.tar.bz2` or `.conda`) or without it.
     ///

@@ -97,6 +97,7 @@ impl PkgRecord {
         Ok(made)
     }
 
+    #[tactic(auto, unfolding(crate::specs::Records::record_data))]
     fn object(&self, alloc: Global) -> Result<Value, AllocError>
         ensures value { IfOk result (λ value. view value ≡ record_data self.now) }
         ensures depends { OnOk result (AllByRecursion ReadsBack self.now.depends) }
