@@ -1,5 +1,5 @@
 -- What is gathered of records, one after another.
-use Rattle.std.specs.Prelude.{◌≡◌, ℕ, Bool, not, ◌&&◌, nat_eq, if◌then◌else◌, List, Option, Some, filter, find}
+use Rattle.std.specs.Prelude.{◌≡◌, ℕ, Bool, not, ◌&&◌, nat_eq, List, Option, filter, find, map}
 use Rattle.std.specs.Cmp.Lexicographic.{pointwise}
 use Rattle.std.specs.Option.{option_map}
 use Rattle.std.specs.HashMap.{get}
@@ -27,6 +27,6 @@ pub record IsGathered (records : List PkgRecord) (state : Gathered) : Type 0 whe
   pub firsts : (name : List ℕ) → get (pointwise nat_eq) state.firsts name ≡ first_of records name
   pub kept : state.records.items ≡ shown records
 
--- whether a virtual package is in a pool
-abbrev pub is_real_virtual : Virtual → Bool
-is_real_virtual virtual = is_virtual_name virtual.name
+-- the records of the virtual packages that have the names of such
+abbrev pub virtual_records : List Virtual → List PkgRecord
+virtual_records virtuals = filter (λ pkg. is_virtual_name pkg.name) (map virtual_record virtuals)

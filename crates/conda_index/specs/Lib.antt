@@ -4,3 +4,4 @@ pub mod Pools
 pub mod Reached
 pub mod Search
 pub mod Gather
+pub mod Walk

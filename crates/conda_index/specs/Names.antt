@@ -1,13 +1,9 @@
 -- Names of packages, which are compared in lower case, after conda's match_spec.py.
-use Rattle.std.specs.Prelude.{ℕ, Bool, List, codes, map, nat_eq}
-use Rattle.std.specs.Char.{to_ascii_lowercase}
+use Rattle.std.specs.Prelude.{ℕ, Bool, List, codes, nat_eq}
 use Rattle.std.specs.List.{starts_with}
 use Rattle.conda_base.specs.Texts.{is_text}
+use Rattle.conda_encode.specs.Matching.{lowered}
 use Rattle.conda_record.specs.declared.pkg_record.PkgRecord.{PkgRecord}
-
--- the name in lower case
-abbrev pub lowered : List ℕ → List ℕ
-lowered name = map to_ascii_lowercase name
 
 -- the name of a record in lower case
 abbrev pub name_of : PkgRecord → List ℕ

@@ -1,6 +1,6 @@
 -- The pools of names. Channels hide one another as conda's strict channel priority has it; that it goes by the order of the channels
 -- alone is this project's own.
-use Rattle.std.specs.Prelude.{◌≤◌, ℕ, Bool, false, not, ◌&&◌, if◌then◌else◌, List, [], ◌∷◌, ◌++◌, codes, length, map, filter, find, Option}
+use Rattle.std.specs.Prelude.{◌≤◌, ℕ, Bool, false, ◌&&◌, if◌then◌else◌, List, [], ◌∷◌, ◌++◌, All, length, map, filter, find, Option}
 use Rattle.std.specs.List.{AllByRecursion, flat_map}
 use Rattle.std.specs.List.Sorted.{IsPermutation, IsSorted}
 use Rattle.std.specs.Option.{option_map, option_map_or}
@@ -82,5 +82,5 @@ index_limit = 16777216
 -- Records by name, those of one name in plain order. No entry names packages by a star, and there are at most 2^24 of them.
 pub record IsIndex (records : List PkgRecord) : Type 0 where
   pub order : IsSorted index_cmp records
-  pub plain : AllByRecursion NamesPlainly records
+  pub plain : All NamesPlainly records
   pub few : length records ≤ index_limit

@@ -3,9 +3,9 @@ use Rattle.std.specs.Prelude.{◌≡◌, ℕ, List, map, Contains}
 use Rattle.conda_spec.specs.Parts.{Parts}
 use Rattle.conda_record.specs.declared.pkg_record.PkgRecord.{PkgRecord}
 use Rattle.conda_record.specs.declared.pool.NamePool.{NamePool}
+use Rattle.conda_encode.specs.Matching.{lowered}
 use Rattle.conda_encode.specs.declared.asked.AskKind.{AskKind}
 use Rattle.conda_encode.specs.declared.asked.Asked.{Asked}
-use Rattle.conda_index.specs.Names.{lowered}
 use Rattle.conda_index.specs.Pools.{pool_of}
 
 -- A name is reached where a wanted item has it, or a dependency of a record in the pool of a name that is reached.

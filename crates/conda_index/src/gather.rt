@@ -1,9 +1,12 @@
-ghost use Rattle.std.specs.Prelude.{◌≡◌, ℕ, List, ◌∷◌, ◌++◌, [], IfOk, OnOk, map, true};
-ghost use Rattle.std.specs.List.{AllByRecursion};
+ghost use Rattle.std.specs.Prelude.{◌≡◌, ℕ, List, ◌∷◌, ◌++◌, [], All, IfOk, OnOk, Some, cond, nat_eq, true};
+ghost use Rattle.std.specs.Prelude.{unwrap_or};
+ghost use Rattle.std.specs.Cmp.Lexicographic.{pointwise};
+ghost use Rattle.indexmap.specs.IndexMap.{get};
+ghost use Rattle.conda_base.specs.Texts.{is_text};
 ghost use Rattle.conda_path.specs.Dists.{is_dist};
 ghost use Rattle.conda_record.specs.declared.pkg_record.PkgRecord.{PkgRecord};
-ghost use Rattle.conda_index.specs.Pools.{given, virtual_dist, virtual_record};
-ghost use Rattle.conda_index.specs.Gather.{IsGathered, gathered, next_first, real_virtuals};
+ghost use Rattle.conda_index.specs.Pools.{given, virtual_dist};
+ghost use Rattle.conda_index.specs.Gather.{IsGathered, shown, virtual_records};
 
 use crate::names::{is_virtual_name, lowered};
 use crate::virtuals::{Virtual, record_of};
@@ -28,6 +31,12 @@ fn is_first(
     name: Text,
     channel: &Text,
 ) -> Result<bool, AllocError>
+    ensures first { IfOk result (λ first. first
+        ≡ is_text (unwrap_or (get (pointwise nat_eq) firsts.old name) channel.now) channel.now) }
+    ensures known { OnOk result ((other : List ℕ) → get (pointwise nat_eq) firsts.new other
+        ≡ cond (pointwise nat_eq name other)
+        (Some (unwrap_or (get (pointwise nat_eq) firsts.old name) channel.now))
+        (get (pointwise nat_eq) firsts.old other)) }
 {
     match firsts.get(&name) {
         Some(first) => Ok(first == channel),
@@ -40,7 +49,10 @@ fn is_first(
 
 impl Gathered {
     /// Takes a record, unless it is hidden or has the name of virtual packages.
-    fn take(&mut self, alloc: Global, pkg: PkgRecord) -> Result<(), AllocError> {
+    fn take(&mut self, alloc: Global, pkg: PkgRecord) -> Result<(), AllocError>
+        ensures { OnOk result ((before : List PkgRecord) → IsGathered before self.old →
+            IsGathered (before ++ pkg ∷ []) self.new) }
+    {
         let name = lowered(alloc, pkg.name.as_str())?;
         let is_virtual = is_virtual_name(name.as_str());
         let is_shown = is_first(&mut self.firsts, name, &pkg.channel)?;
@@ -51,7 +63,10 @@ impl Gathered {
     }
 
     /// Takes the records of a part.
-    fn take_part(&mut self, alloc: Global, part: Repodata) -> Result<(), AllocError> {
+    fn take_part(&mut self, alloc: Global, part: Repodata) -> Result<(), AllocError>
+        ensures { OnOk result ((before : List PkgRecord) → IsGathered before self.old →
+            IsGathered (before ++ part.recs) self.new) }
+    {
         let Repodata { recs, .. } = part;
         for pkg in recs.into_vec() {
             self.take(alloc, pkg)?;
@@ -62,7 +77,9 @@ impl Gathered {
 
 /// The records of the parts that aren't hidden, without those that have the names of virtual
 /// packages.
-pub fn shown_records(alloc: Global, parts: Vec<Repodata>) -> Result<Vec<PkgRecord>, AllocError> {
+pub fn shown_records(alloc: Global, parts: Vec<Repodata>) -> Result<Vec<PkgRecord>, AllocError>
+    ensures { IfOk result (λ records. records.items ≡ shown (given parts.items)) }
+{
     let mut gathered = Gathered {
         firsts: IndexMap::new(alloc),
         records: Vec::new(alloc),
@@ -80,6 +97,8 @@ pub fn take_virtuals(
     virtuals: Vec<Virtual>,
     records: &mut Vec<PkgRecord>,
 ) -> Result<(), AllocError>
+    requires { All (λ v. is_dist (virtual_dist v) ≡ true) virtuals.items }
+    ensures { OnOk result (records.new.items ≡ records.old.items ++ virtual_records virtuals.items) }
 {
     for virtual_package in virtuals {
         if is_virtual_name(virtual_package.name.as_str()) {

@@ -1,8 +1,7 @@
-ghost use Rattle.std.specs.Prelude.{◌≡◌, ◌≤◌, ◌+◌, ℕ, List, IfErr, IfOk, length, true};
-ghost use Rattle.std.specs.List.{AllByRecursion};
+ghost use Rattle.std.specs.Prelude.{◌≡◌, ◌≤◌, ◌+◌, ℕ, List, All, IfErr, IfOk, length, true};
 ghost use Rattle.std.specs.List.Sorted.{IsSorted};
 ghost use Rattle.conda_path.specs.Dists.{is_dist};
-ghost use Rattle.conda_index.specs.Order.{plain_cmp};
+ghost use Rattle.conda_index.specs.Order.{is_before, is_within, plain_cmp};
 ghost use Rattle.conda_index.specs.Pools.{IsIndex, IsPool, NamesPlainly, given, index_limit, pool_of};
 ghost use Rattle.conda_index.specs.Pools.{pool_records, virtual_dist};
 ghost use Rattle.conda_index.specs.declared.error.IndexErr.TheVariants.{Memory};
@@ -53,8 +52,8 @@ impl Index {
         parts: Vec<Repodata>,
         virtuals: Vec<Virtual>,
     ) -> Result<Index, IndexErr>
-        requires dists { AllByRecursion (λ v. is_dist (virtual_dist v) ≡ true) virtuals.items }
-        requires plain { AllByRecursion NamesPlainly (given parts.items) }
+        requires dists { All (λ v. is_dist (virtual_dist v) ≡ true) virtuals.items }
+        requires plain { All NamesPlainly (given parts.items) }
         requires few { length (given parts.items) + length virtuals.items ≤ index_limit }
         ensures pools { IfOk result (λ index. (name : List ℕ) →
             IsPool (pool_records parts.items virtuals.items name) (pool_of index name)) }
@@ -83,13 +82,17 @@ fn pool_in<'a>(records: &'a [PkgRecord], name: &str) -> &'a [PkgRecord]
     ensures pool { result.now ≡ pool_of records.now name.now }
     ensures order { IsSorted plain_cmp result.now }
 {
-    let start = records.partition_point(|pkg: &PkgRecord| -> bool {
-        compare_names(pkg.name.as_str(), name).is_lt()
-    });
+    let start = records.partition_point(
+        |pkg: &PkgRecord| -> bool
+            ensures { result ≡ is_before name.entry.now pkg.now }
+        { compare_names(pkg.name.as_str(), name).is_lt() },
+    );
     let (_, behind) = records.split_at(start);
-    let count = behind.partition_point(|pkg: &PkgRecord| -> bool {
-        compare_names(pkg.name.as_str(), name).is_le()
-    });
+    let count = behind.partition_point(
+        |pkg: &PkgRecord| -> bool
+            ensures { result ≡ is_within name.entry.now pkg.now }
+        { compare_names(pkg.name.as_str(), name).is_le() },
+    );
     let (pool, _) = behind.split_at(count);
     pool
 }

@@ -1,6 +1,7 @@
 ghost use Rattle.std.specs.Prelude.{◌≡◌, IfOk};
 ghost use Rattle.std.specs.Cmp.Lexicographic.{slice_cmp};
 ghost use Rattle.std.specs.Ordering.{nat_cmp};
+ghost use Rattle.conda_encode.specs.Matching as matching;
 ghost use Rattle.conda_index.specs.Names as names;
 
 use conda_base::Text;
@@ -9,7 +10,7 @@ use std::cmp::Ordering;
 
 /// The name in lower case.
 pub fn lowered(alloc: Global, name: &str) -> Result<Text, AllocError>
-    ensures { IfOk result (λ text. text ≡ names.lowered name.now) }
+    ensures { IfOk result (λ text. text ≡ matching.lowered name.now) }
 {
     Ok(Text::from_string(name.to_ascii_lowercase(alloc)?))
 }
@@ -26,7 +27,7 @@ pub fn is_virtual_name(name: &str) -> bool
 
 /// The order of two names, compared in lower case. It takes no memory.
 pub fn compare_names(first: &str, second: &str) -> Ordering
-    ensures { result ≡ slice_cmp nat_cmp (names.lowered first.now) (names.lowered second.now) }
+    ensures { result ≡ slice_cmp nat_cmp (matching.lowered first.now) (matching.lowered second.now) }
 {
     let first = first.as_bytes();
     let second = second.as_bytes();

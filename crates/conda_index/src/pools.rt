@@ -1,11 +1,15 @@
-ghost use Rattle.std.specs.Prelude.{◌≡◌, ◌≤◌, ◌↔◌, ℕ, List, Contains, IfErr, IfOk, length, sum_by};
-ghost use Rattle.std.specs.List.{AllByRecursion};
+ghost use Rattle.std.specs.Prelude.{◌≡◌, ◌≤◌, ◌↔◌, ℕ, List, [], All, Contains, IfErr, IfOk, OnOk};
+ghost use Rattle.std.specs.Prelude.{length, nat_eq, sum_by};
+ghost use Rattle.std.specs.Cmp.Lexicographic.{pointwise};
+ghost use Rattle.indexmap.specs.IndexSet.{insert_all};
 ghost use Rattle.std.specs.List.Sorted.{IsSorted};
 ghost use Rattle.conda_base.specs.Texts.{Ascending};
-ghost use Rattle.conda_index.specs.Names.{lowered, name_of};
+ghost use Rattle.conda_encode.specs.Matching.{lowered};
+ghost use Rattle.conda_index.specs.Names.{name_of};
 ghost use Rattle.conda_index.specs.Order.{plain_cmp};
 ghost use Rattle.conda_index.specs.Pools.{NamesPlainly, index_limit, pool_of};
 ghost use Rattle.conda_index.specs.Reached.{Reaches, names_of};
+ghost use Rattle.conda_index.specs.Walk.{needs_of, wanted};
 ghost use Rattle.conda_index.specs.declared.error.IndexErr.TheVariants.{Memory};
 
 use crate::error::IndexErr;
@@ -26,15 +30,15 @@ impl Index {
             Contains (names_of pools.items) name ↔ Reaches self.now asked.now name) }
         ensures ascending { IfOk result (λ pools. Ascending (names_of pools.items)) }
         ensures records { IfOk result (λ pools.
-            AllByRecursion (λ pool. pool.recs ≡ pool_of self.now pool.name) pools.items) }
+            All (λ pool. pool.recs ≡ pool_of self.now pool.name) pools.items) }
         ensures lowered { IfOk result (λ pools.
-            AllByRecursion (λ pool. lowered pool.name ≡ pool.name) pools.items) }
-        ensures named { IfOk result (λ pools. AllByRecursion (λ pool.
-            AllByRecursion (λ pkg. name_of pkg ≡ pool.name) pool.recs) pools.items) }
+            All (λ pool. lowered pool.name ≡ pool.name) pools.items) }
+        ensures named { IfOk result (λ pools. All (λ pool.
+            All (λ pkg. name_of pkg ≡ pool.name) pool.recs) pools.items) }
         ensures order { IfOk result (λ pools.
-            AllByRecursion (λ pool. IsSorted plain_cmp pool.recs) pools.items) }
+            All (λ pool. IsSorted plain_cmp pool.recs) pools.items) }
         ensures plain { IfOk result (λ pools.
-            AllByRecursion (λ pool. AllByRecursion NamesPlainly pool.recs) pools.items) }
+            All (λ pool. All NamesPlainly pool.recs) pools.items) }
         ensures few { IfOk result (λ pools.
             sum_by (λ pool. length pool.recs) pools.items ≤ index_limit) }
         ensures bad { IfErr result (λ e. e ≡ Memory) }
@@ -44,7 +48,10 @@ impl Index {
     }
 
     /// The names that a request can meet.
-    fn reached(&self, alloc: Global, asked: &[Asked]) -> Result<IndexSet<Text>, AllocError> {
+    fn reached(&self, alloc: Global, asked: &[Asked]) -> Result<IndexSet<Text>, AllocError>
+        ensures { IfOk result (λ names. (name : List ℕ) →
+            Contains names.keys name ↔ Reaches self.now asked.now name) }
+    {
         let mut names = wanted_names(alloc, asked)?;
         for at in 0..usize::MAX {
             let pool = match names.get_index(at) {
@@ -57,7 +64,13 @@ impl Index {
     }
 
     /// The pools of these names, ascending by name.
-    fn pools_of(&self, alloc: Global, names: IndexSet<Text>) -> Result<Vec<NamePool>, AllocError> {
+    fn pools_of(&self, alloc: Global, names: IndexSet<Text>) -> Result<Vec<NamePool>, AllocError>
+        ensures names { IfOk result (λ pools. (name : List ℕ) →
+            Contains (names_of pools.items) name ↔ Contains names.keys name) }
+        ensures ascending { IfOk result (λ pools. Ascending (names_of pools.items)) }
+        ensures records { IfOk result (λ pools.
+            All (λ pool. pool.recs ≡ pool_of self.now pool.name) pools.items) }
+    {
         let mut names = names;
         names.sort_unstable()?;
         let mut pools = Vec::with_capacity(alloc, names.len())?;
@@ -73,7 +86,9 @@ impl Index {
 }
 
 /// The names of the wanted items.
-fn wanted_names(alloc: Global, asked: &[Asked]) -> Result<IndexSet<Text>, AllocError> {
+fn wanted_names(alloc: Global, asked: &[Asked]) -> Result<IndexSet<Text>, AllocError>
+    ensures { IfOk result (λ names. names.keys ≡ insert_all (pointwise nat_eq) [] (wanted asked.now)) }
+{
     let mut names = IndexSet::new(alloc);
     for item in asked {
         match item.kind {
@@ -92,6 +107,8 @@ fn add_needs(
     pool: &[PkgRecord],
     names: &mut IndexSet<Text>,
 ) -> Result<(), AllocError>
+    ensures { OnOk result (names.new.keys
+        ≡ insert_all (pointwise nat_eq) names.old.keys (needs_of pool.now)) }
 {
     for pkg in pool {
         for need in pkg.depends.as_slice() {

@@ -1,31 +1,19 @@
-ghost use Rattle.std.specs.Prelude.{◌≡◌, ◌≢◌, [], IfOk, IsErrOf};
+ghost use Rattle.std.specs.Prelude.{◌≡◌, ◌≢◌, [], IfOk, IsErrOf, filter, map};
 ghost use Rattle.std.specs.List.Sorted.{IsSorted};
 ghost use Rattle.conda_index.specs.Order.{index_cmp};
-ghost use Rattle.conda_index.specs.Search.{found, names_record};
+ghost use Rattle.conda_encode.specs.Matching.{names};
+ghost use Rattle.conda_index.specs.Search.{found};
 ghost use Rattle.conda_index.specs.declared.error.IndexErr.TheVariants.{NoMatch};
 
 use crate::error::IndexErr;
 use crate::index::Index;
 use conda_base::Copied;
+use conda_encode::names;
 use conda_record::PkgRecord;
 use conda_spec::Spec;
 use rayon::prelude::*;
 use std::alloc::{AllocError, Global};
 use std::thread::Threads;
-
-/// Whether a specification names a record.
-fn names_record(spec: &Spec, pkg: &PkgRecord) -> bool
-    ensures { result ≡ names_record spec.now pkg.now }
-{
-    spec.matches(
-        pkg.name.as_str(),
-        &pkg.version,
-        pkg.build.as_str(),
-        pkg.build_number,
-        pkg.channel.as_str(),
-        pkg.subdir.as_str(),
-    )
-}
 
 impl Index {
     /// The records of pools that a specification names, by name in lower case and in plain order,
@@ -58,19 +46,23 @@ fn matching<'a, R: Threads + Sync>(
     spec: &Spec,
     records: &'a [PkgRecord],
 ) -> Result<Vec<&'a PkgRecord>, AllocError>
+    ensures { IfOk result (λ found. map (λ pkg. pkg.now) found.items
+        ≡ filter (names spec.now) records.now) }
 {
     records
         .par_iter()
         .filter(
             move |pkg: &&PkgRecord| -> bool
-                ensures { result ≡ names_record spec.entry.now pkg.now.now }
-            { names_record(spec, *pkg) },
+                ensures { result ≡ names spec.entry.now pkg.now.now }
+            { names(spec, *pkg) },
         )
         .collect(rt, alloc)
 }
 
 /// Equal records of their own.
-fn copied_refs(alloc: Global, records: &[&PkgRecord]) -> Result<Vec<PkgRecord>, AllocError> {
+fn copied_refs(alloc: Global, records: &[&PkgRecord]) -> Result<Vec<PkgRecord>, AllocError>
+    ensures { IfOk result (λ copies. copies.items ≡ map (λ pkg. pkg.now) records.now) }
+{
     let mut copies = Vec::with_capacity(alloc, records.len())?;
     for pkg in records {
         copies.push(pkg.copy()?)?;

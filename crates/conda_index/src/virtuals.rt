@@ -1,4 +1,4 @@
-ghost use Rattle.std.specs.Prelude.{◌≡◌, IfOk, true};
+ghost use Rattle.std.specs.Prelude.{◌≡◌, IfOk, string_bytes, true};
 ghost use Rattle.conda_path.specs.Dists.{is_dist};
 ghost use Rattle.conda_index.specs.Pools.{virtual_dist, virtual_record};
 
@@ -25,14 +25,33 @@ impl Copied for Virtual {
 }
 
 /// Name, version and build in one text.
-fn dist_of(alloc: Global, virtual_package: &Virtual) -> Result<Dist, AllocError>
-    requires { is_dist (virtual_dist virtual_package.now) ≡ true }
-    ensures { IfOk result (λ dist. dist ≡ virtual_dist virtual_package.now) }
+fn dist_text(alloc: Global, virtual_package: &Virtual) -> Result<String, AllocError>
+    ensures { IfOk result (λ text. string_bytes text ≡ virtual_dist virtual_package.now) }
 {
     let name = virtual_package.name.as_str();
     let version = virtual_package.version.text();
     let build = virtual_package.build.as_str();
-    let text = format!(in alloc; "{name}-{version}-{build}")?;
+    format!(in alloc; "{name}-{version}-{build}")
+}
+
+/// Whether name, version and build are those of a dist.
+pub fn has_dist(alloc: Global, virtual_package: &Virtual) -> Result<bool, AllocError>
+    ensures { IfOk result (λ has. has ≡ is_dist (virtual_dist virtual_package.now)) }
+{
+    let text = dist_text(alloc, virtual_package)?;
+    match Dist::read(alloc, text.as_str()) {
+        Ok(_) => Ok(true),
+        Err(DistErr::BadDist) => Ok(false),
+        Err(DistErr::Memory) => Err(AllocError),
+    }
+}
+
+/// The dist of a virtual package.
+fn dist_of(alloc: Global, virtual_package: &Virtual) -> Result<Dist, AllocError>
+    requires { is_dist (virtual_dist virtual_package.now) ≡ true }
+    ensures { IfOk result (λ dist. dist ≡ virtual_dist virtual_package.now) }
+{
+    let text = dist_text(alloc, virtual_package)?;
     match Dist::read(alloc, text.as_str()) {
         Ok(dist) => Ok(dist),
         Err(DistErr::BadDist) => unreachable!(),

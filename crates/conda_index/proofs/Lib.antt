@@ -1,0 +1,4 @@
+pub mod FilterLemmas
+pub mod OrderLemmas
+pub mod PoolLemmas
+pub mod GatherLemmas
