@@ -1,3 +1,5 @@
+ghost use Rattle.std.specs.Prelude.{◌≡◌, IfOk};
+
 use crate::noarch::Noarch;
 use conda_base::{Copied, Rows, Text};
 use conda_path::Dist;
@@ -6,7 +8,7 @@ use conda_version::Version;
 use std::alloc::AllocError;
 
 /// What a channel says of a package.
-#[derive(Clone, Debug, Drop)]
+#[derive(Debug, Drop)]
 pub struct PkgRecord {
     /// Letters, digits, `_`, `-` and `.`, in the case that the channel gives.
     pub name: Text,
@@ -28,6 +30,58 @@ pub struct PkgRecord {
     /// When the package was built: milliseconds since 1970 where the channel gives them, and 0
     /// where it says nothing.
     pub timestamp: u64,
+}
+
+/// The texts that say which package it is.
+type Names = (Text, Text, Text, Text);
+
+impl PkgRecord {
+    /// Equal texts: name, build, channel and subdir.
+    fn names(&self) -> Result<Names, AllocError>
+        ensures { IfOk result (λ made. made
+            ≡ (self.now.name, self.now.build, self.now.channel, self.now.subdir)) }
+    {
+        let name = self.name.copy()?;
+        let build = self.build.copy()?;
+        let channel = self.channel.copy()?;
+        let subdir = self.subdir.copy()?;
+        Ok((name, build, channel, subdir))
+    }
+
+    /// Equal lists of what it needs, and of what others have to be.
+    fn needs(&self) -> Result<(Rows<Spec>, Rows<Spec>), AllocError>
+        ensures { IfOk result (λ made. made ≡ (self.now.depends, self.now.constrains)) }
+    {
+        let depends = self.depends.copy()?;
+        let constrains = self.constrains.copy()?;
+        Ok((depends, constrains))
+    }
+}
+
+impl Clone for PkgRecord {
+    ghost use Rattle.std.specs.Prelude.{◌≡◌};
+
+    ghost is_clone = { λ pkg made. made ≡ pkg };
+
+    fn clone(&self) -> Result<PkgRecord, AllocError> {
+        let (name, build, channel, subdir) = self.names()?;
+        let (depends, constrains) = self.needs()?;
+        let version = self.version.copy()?;
+        let dist = self.dist.copy()?;
+        Ok(PkgRecord {
+            name,
+            version,
+            build,
+            build_number: self.build_number,
+            channel,
+            subdir,
+            dist,
+            depends,
+            constrains,
+            noarch: self.noarch,
+            timestamp: self.timestamp,
+        })
+    }
 }
 
 impl Copied for PkgRecord {
