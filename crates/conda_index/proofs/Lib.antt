@@ -2,3 +2,6 @@ pub mod FilterLemmas
 pub mod OrderLemmas
 pub mod PoolLemmas
 pub mod GatherLemmas
+pub mod ReachLemmas
+pub mod RequestLemmas
+pub mod LawLemmas

@@ -1,13 +1,15 @@
 -- The orders of records.
 use Rattle.std.specs.Prelude.{◌≡◌, ℕ, ◌+◌, ◌<◌, ◌≤◌, Bool, true, false, List, [], ◌∷◌, filter, length, nat_eq, All}
-use Rattle.std.proofs.Common.{refl, ap, sym, ◌∙◌, subst, arith, get_or, drop}
-use Rattle.std.proofs.lemmas.Cmp.{back_total, nat_cmp_total, nat_list_cmp_total, on_total, then_total, upto}
-use Rattle.std.proofs.lemmas.List.{get_or-drop}
+use Rattle.std.proofs.Common.{Bor, refl, ap, sym, ◌∙◌, subst, arith, get_or, drop}
+use Rattle.std.proofs.lemmas.Fn.{always_returns_same}
+use Rattle.std.proofs.lemmas.Cmp.{back_total, nat_cmp_total, nat_list_cmp_total, on_total, then_total, tied_back, upto}
+use Rattle.std.proofs.lemmas.List.{get_or-drop, length-drop}
 use Rattle.std.proofs.lemmas.List.Elements.{filter_passes}
 use Rattle.std.proofs.lemmas.List.Kept.{IsSortedBy-filter}
 use Rattle.std.proofs.lemmas.List.Sorted.{ranks_by, sorted_far}
 use Rattle.std.specs.Cmp.{IsStrictWeakOrder, IsTotalOrder}
 use Rattle.std.specs.Cmp.Lexicographic.{pointwise, slice_cmp, texts_ties}
+use Rattle.std.specs.Fn.{Called, ComparesAs, Mut}
 use Rattle.std.specs.List.Sorted.{IsPartitionedBy, IsSorted, IsSortedBy}
 use Rattle.std.specs.Ordering.{is_eq, is_gt, is_le, is_lt, nat_cmp, ordering_reverse, ordering_then}
 use Rattle.std.specs.declared.cmp.Ordering.{Ordering}
@@ -52,6 +54,17 @@ index_total laws = then_total (on_total name_of nat_list_cmp_total) (plain_total
 
 pub ranks : VersionLaws → IsStrictWeakOrder (λ (a : PkgRecord) (b : PkgRecord). is_lt (index_cmp a b))
 ranks laws = ranks_by (index_total laws) (λ (pkg : PkgRecord). pkg)
+
+-- what a sort by a closure that compares so gives
+pub sorted_by_index : {F : Type 0} {g : Mut F (Bor PkgRecord × (Bor PkgRecord × Unit {0})) Ordering} {f : F} → VersionLaws → (ys : List PkgRecord)
+    → ((lt : PkgRecord → PkgRecord → Bool) → IsStrictWeakOrder lt → ComparesAs g lt f → IsSortedBy lt ys)
+    → ((a : Bor PkgRecord × (Bor PkgRecord × Unit {0})) (r : Ordering) (f' : F) → Called g f a r f'
+    → (r ≡ index_cmp a.0.now a.1.0.now) × (f' ≡ f))
+    → IsSorted index_cmp ys
+sorted_by_index {g = g} {f = f} laws ys up h =
+    up (λ a b. is_lt (index_cmp a b)) (ranks laws)
+    (always_returns_same g (λ a r. is_lt r ≡ is_lt (index_cmp a.0.now a.1.0.now)) f
+    (λ a r f' k. (ap is_lt (h a r f' k).0, (h a r f' k).1)))
 
 -- ---- names
 
@@ -140,4 +153,36 @@ module _ (laws : VersionLaws) (name : List ℕ) (records : List PkgRecord) (orde
 
 -- what stands behind some of a sorted list is sorted
 pub sorted_drop : {X : Type 0} (lt : X → X → Bool) (n : ℕ) (xs : List X) → IsSortedBy lt xs → IsSortedBy lt (drop n xs)
-sorted_drop {X} lt n xs h k d low high = ?
+sorted_drop {X} lt n xs h k d low high =
+    let short : n + k + 1 < length xs = omega (arith, length-drop n xs) in
+    let next : get_or (drop n xs) (k + 1) d ≡ get_or xs (n + k + 1) d =
+    get_or-drop n xs (k + 1) d ∙ ap (λ i. get_or xs i d) (omega arith)
+    in
+    ap (λ x. lt x (get_or (drop n xs) k d)) next ∙ ap (lt (get_or xs (n + k + 1) d)) (get_or-drop n xs k d)
+    ∙ h (n + k) d (omega arith) short
+
+-- ---- pools
+
+-- records of one name in the order of an index are in plain order
+pub plain_pool : VersionLaws → (name : List ℕ) (records : List PkgRecord) → IsSorted index_cmp records
+    → IsSorted plain_cmp (filter (is_named name) records)
+plain_pool laws name records order k d low high =
+    let pool = filter (is_named name) records in
+    let up : is_lt (index_cmp (get_or pool (k + 1) d) (get_or pool k d)) ≡ false =
+    IsSortedBy-filter (λ a b. is_lt (index_cmp a b)) (ranks laws) (is_named name) records order k d low high
+    in
+    let next : is_named name (get_or pool (k + 1) d) ≡ true = filter_passes (is_named name) records (k + 1) d high in
+    let this : is_named name (get_or pool k d) ≡ true = filter_passes (is_named name) records k d (omega arith) in
+    let one : slice_cmp nat_cmp (name_of (get_or pool (k + 1) d)) (name_of (get_or pool k d)) ≡ Equal =
+    both (name_of (get_or pool (k + 1) d)) (name_of (get_or pool k d)) (lowered name)
+    (tied _ (sym (named_is name (get_or pool (k + 1) d)) ∙ next)) (tied _ (sym (named_is name (get_or pool k d)) ∙ this))
+    in
+    ap (λ o. is_lt (ordering_then o (plain_cmp (get_or pool (k + 1) d) (get_or pool k d)))) (sym one) ∙ up
+  where
+    tied : (o : Ordering) → is_eq o ≡ true → o ≡ Equal
+    tied Less h = cc h
+    tied Equal h = refl
+    tied Greater h = cc h
+
+    both : (a b z : List ℕ) → slice_cmp nat_cmp a z ≡ Equal → slice_cmp nat_cmp b z ≡ Equal → slice_cmp nat_cmp a b ≡ Equal
+    both a b z h k = nat_list_cmp_total.congr a z b h ∙ tied_back nat_list_cmp_total b z k

@@ -1,5 +1,5 @@
 -- What is gathered of records, one after another.
-use Rattle.std.specs.Prelude.{◌≡◌, ℕ, Bool, not, ◌&&◌, nat_eq, List, Option, filter, find, map}
+use Rattle.std.specs.Prelude.{◌≡◌, ℕ, Bool, not, ◌&&◌, nat_eq, List, Option, filter, find, map, unwrap_or}
 use Rattle.std.specs.Cmp.Lexicographic.{pointwise}
 use Rattle.std.specs.Option.{option_map}
 use Rattle.std.specs.HashMap.{get}
@@ -21,6 +21,10 @@ shown records = filter (is_shown records) records
 -- the channel of the first record whose name is this one in lower case
 abbrev pub first_of : List PkgRecord → List ℕ → Option (List ℕ)
 first_of records name = option_map (λ pkg. pkg.channel) (find (λ pkg. is_text (name_of pkg) name) records)
+
+-- a record of a name with this first channel isn't hidden, and doesn't have the name of virtual packages
+abbrev pub is_kept : Option (List ℕ) → PkgRecord → Bool
+is_kept first pkg = not (is_virtual_name pkg.name) && is_text pkg.channel (unwrap_or first pkg.channel)
 
 -- this was gathered of the records
 pub record IsGathered (records : List PkgRecord) (state : Gathered) : Type 0 where

@@ -1,14 +1,14 @@
 -- The pools of names. Channels hide one another as conda's strict channel priority has it; that it goes by the order of the channels
 -- alone is this project's own.
 use Rattle.std.specs.Prelude.{◌≤◌, ℕ, Bool, false, ◌&&◌, if◌then◌else◌, List, [], ◌∷◌, ◌++◌, All, length, map, filter, find, Option}
-use Rattle.std.specs.List.{AllByRecursion, flat_map}
+use Rattle.std.specs.List.{flat_map}
 use Rattle.std.specs.List.Sorted.{IsPermutation, IsSorted}
 use Rattle.std.specs.Option.{option_map, option_map_or}
 use Rattle.conda_base.specs.Signs.{dash}
 use Rattle.conda_base.specs.Texts.{is_text}
-use Rattle.conda_record.specs.Rules.{HasNoGlob}
 use Rattle.conda_record.specs.declared.noarch.Noarch.{Noarch}
 use Rattle.conda_record.specs.declared.pkg_record.PkgRecord.{PkgRecord}
+use Rattle.conda_encode.specs.Variables.{IsPlain}
 use Rattle.conda_repodata.specs.declared.repodata.Repodata.{Repodata}
 use Rattle.conda_index.specs.Names.{is_named, is_virtual_name}
 use Rattle.conda_index.specs.Order.{index_cmp, plain_cmp}
@@ -73,7 +73,7 @@ pool_of index name = filter (is_named name) index
 
 -- no entry of the record names packages by a star
 abbrev pub NamesPlainly : PkgRecord → Type 0
-NamesPlainly pkg = AllByRecursion HasNoGlob pkg.depends × AllByRecursion HasNoGlob pkg.constrains
+NamesPlainly pkg = All IsPlain pkg.depends × All IsPlain pkg.constrains
 
 -- the most records of an index
 abbrev pub index_limit : ℕ

@@ -12,8 +12,8 @@ is_wanted AskKind.Wanted = true
 is_wanted AskKind.Pinned = false
 
 -- the names of the wanted items, in lower case
-abbrev pub wanted : List Asked → List (List ℕ)
-wanted asked = map (λ item. lowered item.spec.name) (filter (λ item. is_wanted item.kind) asked)
+abbrev pub names_wanted : List Asked → List (List ℕ)
+names_wanted asked = map (λ item. lowered item.spec.name) (filter (λ item. is_wanted item.kind) asked)
 
 -- the names of what records need, in lower case
 abbrev pub needs_of : List PkgRecord → List (List ℕ)

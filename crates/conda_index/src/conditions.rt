@@ -1,7 +1,6 @@
 ghost use Rattle.std.specs.Prelude.{◌≡◌, ◌≤◌, ◌+◌, All, IfOk, IsTrue, length, sum_by, true};
-ghost use Rattle.std.specs.List.{AllByRecursion};
 ghost use Rattle.conda_path.specs.Dists.{is_dist};
-ghost use Rattle.conda_record.specs.Rules.{HasNoGlob};
+ghost use Rattle.conda_encode.specs.Variables.{IsPlain};
 ghost use Rattle.conda_index.specs.Pools.{NamesPlainly, given, index_limit, virtual_dist};
 
 use crate::virtuals::{Virtual, has_dist};
@@ -87,7 +86,7 @@ fn name_plainly(records: &[PkgRecord]) -> bool
 
 /// Whether no specification has a star in its name.
 fn are_plain(specs: &[Spec]) -> bool
-    ensures { IsTrue result → AllByRecursion HasNoGlob specs.now }
+    ensures { IsTrue result → All IsPlain specs.now }
 {
     for spec in specs {
         if spec.has_glob() {

@@ -6,7 +6,9 @@ ghost use Rattle.conda_base.specs.Texts.{is_text};
 ghost use Rattle.conda_path.specs.Dists.{is_dist};
 ghost use Rattle.conda_record.specs.declared.pkg_record.PkgRecord.{PkgRecord};
 ghost use Rattle.conda_index.specs.Pools.{given, virtual_dist};
+ghost use Rattle.conda_index.specs.Gather as gather;
 ghost use Rattle.conda_index.specs.Gather.{IsGathered, shown, virtual_records};
+ghost use Rattle.conda_index.specs.Names.{name_of};
 
 use crate::names::{is_virtual_name, lowered};
 use crate::virtuals::{Virtual, record_of};
@@ -32,14 +34,14 @@ fn is_first(
     channel: &Text,
 ) -> Result<bool, AllocError>
     ensures first { IfOk result (λ first. first
-        ≡ is_text (unwrap_or (get (pointwise nat_eq) firsts.old name) channel.now) channel.now) }
+        ≡ is_text channel.now (unwrap_or (get (pointwise nat_eq) firsts.old name) channel.now)) }
     ensures known { OnOk result ((other : List ℕ) → get (pointwise nat_eq) firsts.new other
         ≡ cond (pointwise nat_eq name other)
         (Some (unwrap_or (get (pointwise nat_eq) firsts.old name) channel.now))
         (get (pointwise nat_eq) firsts.old other)) }
 {
     match firsts.get(&name) {
-        Some(first) => Ok(first == channel),
+        Some(first) => Ok(channel == first),
         None => {
             firsts.insert(name, channel.copy()?)?;
             Ok(true)
@@ -47,16 +49,32 @@ fn is_first(
     }
 }
 
+/// Whether a record is kept: it is of its name's first channel, and its name isn't one of virtual
+/// packages.
+fn is_kept(
+    alloc: Global,
+    firsts: &mut IndexMap<Text, Text>,
+    pkg: &PkgRecord,
+) -> Result<bool, AllocError>
+    ensures kept { IfOk result (λ kept. kept
+        ≡ gather.is_kept (get (pointwise nat_eq) firsts.old (name_of pkg.now)) pkg.now) }
+    ensures known { OnOk result ((other : List ℕ) → get (pointwise nat_eq) firsts.new other
+        ≡ cond (pointwise nat_eq (name_of pkg.now) other)
+        (Some (unwrap_or (get (pointwise nat_eq) firsts.old (name_of pkg.now)) pkg.now.channel))
+        (get (pointwise nat_eq) firsts.old other)) }
+{
+    let name = lowered(alloc, pkg.name.as_str())?;
+    let first = is_first(firsts, name, &pkg.channel)?;
+    Ok(!is_virtual_name(pkg.name.as_str()) && first)
+}
+
 impl Gathered {
-    /// Takes a record, unless it is hidden or has the name of virtual packages.
+    /// Takes a record, if it is kept.
     fn take(&mut self, alloc: Global, pkg: PkgRecord) -> Result<(), AllocError>
         ensures { OnOk result ((before : List PkgRecord) → IsGathered before self.old →
             IsGathered (before ++ pkg ∷ []) self.new) }
     {
-        let name = lowered(alloc, pkg.name.as_str())?;
-        let is_virtual = is_virtual_name(name.as_str());
-        let is_shown = is_first(&mut self.firsts, name, &pkg.channel)?;
-        if is_shown && !is_virtual {
+        if is_kept(alloc, &mut self.firsts, &pkg)? {
             self.records.push(pkg)?;
         }
         Ok(())

@@ -13,6 +13,7 @@ use crate::order::put_in_order;
 use crate::virtuals::Virtual;
 use conda_record::PkgRecord;
 use conda_repodata::Repodata;
+use conda_version::order_laws;
 use std::alloc::Global;
 use std::marker::Model;
 use std::thread::Threads;
@@ -59,6 +60,7 @@ impl Index {
             IsPool (pool_records parts.items virtuals.items name) (pool_of index name)) }
         ensures bad { IfErr result (λ e. e ≡ Memory) }
     {
+        order_laws();
         let mut records = shown_records(alloc, parts)?;
         take_virtuals(alloc, virtuals, &mut records)?;
         put_in_order(rt, records.as_mut_slice());
@@ -82,6 +84,7 @@ fn pool_in<'a>(records: &'a [PkgRecord], name: &str) -> &'a [PkgRecord]
     ensures pool { result.now ≡ pool_of records.now name.now }
     ensures order { IsSorted plain_cmp result.now }
 {
+    order_laws();
     let start = records.partition_point(
         |pkg: &PkgRecord| -> bool
             ensures { result ≡ is_before name.entry.now pkg.now }

@@ -1,12 +1,13 @@
-ghost use Rattle.std.specs.Prelude.{◌≡◌, ◌≢◌, ◌↔◌, ◌<◌, ◌∷◌, ◌++◌, ℕ, List, Contains, Some, false, true};
+ghost use Rattle.std.specs.Prelude.{◌≡◌, ◌↔◌, ◌<◌, ◌∷◌, ◌++◌, ℕ, List, Contains, Some, false, true};
 ghost use Rattle.std.specs.Cmp.{IsTotalOrder};
 ghost use Rattle.std.specs.List.{AllByRecursion};
 ghost use Rattle.std.specs.declared.cmp.Ordering.TheVariants.{Equal, Less};
 ghost use Rattle.conda_version.specs.Order.{version_cmp};
+ghost use Rattle.conda_record.specs.Rules.{IsWellFormed};
 ghost use Rattle.conda_record.specs.declared.pkg_record.PkgRecord.{PkgRecord};
 ghost use Rattle.conda_index.specs.Names.{is_named};
 ghost use Rattle.conda_index.specs.Order.{index_cmp, plain_cmp};
-ghost use Rattle.conda_index.specs.Pools.{channel_pool, first_channel};
+ghost use Rattle.conda_index.specs.Pools.{NamesPlainly, channel_pool, first_channel};
 
 use conda_version as version;
 
@@ -24,7 +25,7 @@ pub fn order_laws()
 
 /// What the first channel of a name and its pool mean: there is a record of the name in the channel,
 /// and none of the name before it. The pool has the records of the name in that channel, and no
-/// others.
+/// others. A well-formed record, as each is that a reader gives, names packages without a star.
 pub fn index_laws()
     ensures first { (records : List PkgRecord) (name channel : List ℕ) →
         (first_channel records name ≡ Some channel)
@@ -36,4 +37,5 @@ pub fn index_laws()
         Contains (channel_pool records name) pkg
         ↔ (Contains records pkg × (is_named name pkg ≡ true)
         × (first_channel records name ≡ Some pkg.channel)) }
+    ensures plain { (pkg : PkgRecord) → IsWellFormed pkg → NamesPlainly pkg }
 {}

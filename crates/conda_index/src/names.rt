@@ -29,15 +29,15 @@ pub fn is_virtual_name(name: &str) -> bool
 pub fn compare_names(first: &str, second: &str) -> Ordering
     ensures { result ≡ slice_cmp nat_cmp (matching.lowered first.now) (matching.lowered second.now) }
 {
-    let first = first.as_bytes();
-    let second = second.as_bytes();
-    for at in 0..first.len().min(second.len()) {
-        let order = first[at]
+    let left = first.as_bytes();
+    let right = second.as_bytes();
+    for at in 0..left.len().min(right.len()) {
+        let order = left[at]
             .to_ascii_lowercase()
-            .cmp(&second[at].to_ascii_lowercase());
+            .cmp(&right[at].to_ascii_lowercase());
         if order.is_ne() {
             return order;
         }
     }
-    first.len().cmp(&second.len())
+    left.len().cmp(&right.len())
 }

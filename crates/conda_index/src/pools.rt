@@ -1,15 +1,15 @@
-ghost use Rattle.std.specs.Prelude.{◌≡◌, ◌≤◌, ◌↔◌, ℕ, List, [], All, Contains, IfErr, IfOk, OnOk};
-ghost use Rattle.std.specs.Prelude.{length, nat_eq, sum_by};
+ghost use Rattle.std.specs.Prelude.{◌≡◌, ◌↔◌, ℕ, List, [], All, Contains, IfErr, IfOk, OnOk, map, nat_eq};
 ghost use Rattle.std.specs.Cmp.Lexicographic.{pointwise};
 ghost use Rattle.indexmap.specs.IndexSet.{insert_all};
 ghost use Rattle.std.specs.List.Sorted.{IsSorted};
 ghost use Rattle.conda_base.specs.Texts.{Ascending};
 ghost use Rattle.conda_encode.specs.Matching.{lowered};
-ghost use Rattle.conda_index.specs.Names.{name_of};
+ghost use Rattle.conda_encode.specs.Variables.{IsPlain, IsRequest};
+ghost use Rattle.conda_encode.specs.declared.asked.Asked.{Asked};
 ghost use Rattle.conda_index.specs.Order.{plain_cmp};
-ghost use Rattle.conda_index.specs.Pools.{NamesPlainly, index_limit, pool_of};
+ghost use Rattle.conda_index.specs.Pools.{pool_of};
 ghost use Rattle.conda_index.specs.Reached.{Reaches, names_of};
-ghost use Rattle.conda_index.specs.Walk.{needs_of, wanted};
+ghost use Rattle.conda_index.specs.Walk.{names_wanted, needs_of};
 ghost use Rattle.conda_index.specs.declared.error.IndexErr.TheVariants.{Memory};
 
 use crate::error::IndexErr;
@@ -18,13 +18,16 @@ use crate::names::lowered;
 use conda_base::{Copied, Rows, Text, copied_all};
 use conda_encode::{AskKind, Asked};
 use conda_record::{NamePool, PkgRecord};
+use conda_spec::Spec;
+use conda_version::order_laws;
 use indexmap::IndexSet;
 use std::alloc::{AllocError, Global};
 
 impl Index {
     /// The pools of the names that a request can meet, ascending by name: the names of its wanted
     /// items, and those of the dependencies of the records in these pools, and so on. A name that
-    /// has no record has an empty pool.
+    /// has no record has an empty pool. Where no wanted or pinned item has a star in its name, they
+    /// can be written as clauses.
     pub fn pools(&self, alloc: Global, asked: &[Asked]) -> Result<Vec<NamePool>, IndexErr>
         ensures names { IfOk result (λ pools. (name : List ℕ) →
             Contains (names_of pools.items) name ↔ Reaches self.now asked.now name) }
@@ -33,16 +36,15 @@ impl Index {
             All (λ pool. pool.recs ≡ pool_of self.now pool.name) pools.items) }
         ensures lowered { IfOk result (λ pools.
             All (λ pool. lowered pool.name ≡ pool.name) pools.items) }
-        ensures named { IfOk result (λ pools. All (λ pool.
-            All (λ pkg. name_of pkg ≡ pool.name) pool.recs) pools.items) }
         ensures order { IfOk result (λ pools.
             All (λ pool. IsSorted plain_cmp pool.recs) pools.items) }
-        ensures plain { IfOk result (λ pools.
-            All (λ pool. All NamesPlainly pool.recs) pools.items) }
-        ensures few { IfOk result (λ pools.
-            sum_by (λ pool. length pool.recs) pools.items ≤ index_limit) }
+        ensures request { IfOk result (λ pools.
+            ((item : Asked) → Contains asked.now item → IsPlain item.spec) →
+            IsRequest pools.items asked.now) }
         ensures bad { IfErr result (λ e. e ≡ Memory) }
     {
+        order_laws();
+        let _ = self.records.as_slice();
         let reached = self.reached(alloc, asked)?;
         Ok(self.pools_of(alloc, reached)?)
     }
@@ -55,11 +57,12 @@ impl Index {
         let mut names = wanted_names(alloc, asked)?;
         for at in 0..usize::MAX {
             let pool = match names.get_index(at) {
-                None => break,
+                None => return Ok(names),
                 Some(name) => self.pool(name.as_str()),
             };
             add_needs(alloc, pool, &mut names)?;
         }
+        let _ = names.len();
         Ok(names)
     }
 
@@ -72,9 +75,9 @@ impl Index {
             All (λ pool. pool.recs ≡ pool_of self.now pool.name) pools.items) }
     {
         let mut names = names;
-        names.sort_unstable()?;
-        let mut pools = Vec::with_capacity(alloc, names.len())?;
-        for name in names.iter() {
+        names.sort()?;
+        let mut pools = Vec::new(alloc);
+        for name in names.as_slice() {
             let recs = copied_all(alloc, self.pool(name.as_str()))?;
             pools.push(NamePool {
                 name: name.copy()?,
@@ -87,7 +90,7 @@ impl Index {
 
 /// The names of the wanted items.
 fn wanted_names(alloc: Global, asked: &[Asked]) -> Result<IndexSet<Text>, AllocError>
-    ensures { IfOk result (λ names. names.keys ≡ insert_all (pointwise nat_eq) [] (wanted asked.now)) }
+    ensures { IfOk result (λ names. names.keys ≡ insert_all (pointwise nat_eq) [] (names_wanted asked.now)) }
 {
     let mut names = IndexSet::new(alloc);
     for item in asked {
@@ -111,9 +114,22 @@ fn add_needs(
         ≡ insert_all (pointwise nat_eq) names.old.keys (needs_of pool.now)) }
 {
     for pkg in pool {
-        for need in pkg.depends.as_slice() {
-            names.insert(lowered(alloc, need.name())?)?;
-        }
+        add_names(alloc, pkg.depends.as_slice(), names)?;
+    }
+    Ok(())
+}
+
+/// Adds the names of specifications.
+fn add_names(
+    alloc: Global,
+    specs: &[Spec],
+    names: &mut IndexSet<Text>,
+) -> Result<(), AllocError>
+    ensures { OnOk result (names.new.keys
+        ≡ insert_all (pointwise nat_eq) names.old.keys (map (λ spec. lowered spec.name) specs.now)) }
+{
+    for spec in specs {
+        names.insert(lowered(alloc, spec.name())?)?;
     }
     Ok(())
 }

@@ -8,9 +8,10 @@ ghost use Rattle.conda_index.specs.declared.error.IndexErr.TheVariants.{NoMatch}
 use crate::error::IndexErr;
 use crate::index::Index;
 use conda_base::Copied;
-use conda_encode::names;
+use conda_encode::names_record;
 use conda_record::PkgRecord;
 use conda_spec::Spec;
+use conda_version::order_laws;
 use rayon::prelude::*;
 use std::alloc::{AllocError, Global};
 use std::thread::Threads;
@@ -31,6 +32,7 @@ impl Index {
         ensures order { IfOk result (λ records. IsSorted index_cmp records.items) }
         ensures none { IsErrOf result NoMatch → found spec.now self.now ≡ [] }
     {
+        order_laws();
         let found = matching(rt, alloc, spec, self.records.as_slice())?;
         if found.is_empty() {
             return Err(IndexErr::NoMatch);
@@ -54,7 +56,7 @@ fn matching<'a, R: Threads + Sync>(
         .filter(
             move |pkg: &&PkgRecord| -> bool
                 ensures { result ≡ names spec.entry.now pkg.now.now }
-            { names(spec, *pkg) },
+            { names_record(spec, *pkg) },
         )
         .collect(rt, alloc)
 }
