@@ -7,6 +7,7 @@ use Rattle.std.proofs.lemmas.List.Elements.{All-contains_itself, All-weaker, fil
 use Rattle.std.proofs.lemmas.Map.Lookups.{exact_bytes}
 use Rattle.std.specs.Cmp.Lexicographic.{pointwise, slice_cmp, texts_ties}
 use Rattle.std.specs.List.{AllByRecursion, starts_with}
+use Rattle.std.specs.HashMap.{get}
 use Rattle.std.specs.Option.{option_map}
 use Rattle.std.specs.Ordering.{is_eq, nat_cmp}
 use Rattle.std.specs.declared.cmp.Ordering.{Ordering}
@@ -15,7 +16,8 @@ use Rattle.conda_base.specs.Texts.{is_text}
 use Rattle.conda_encode.specs.Matching.{lowered}
 use Rattle.conda_record.specs.declared.pkg_record.PkgRecord.{PkgRecord}
 use Rattle.conda_repodata.specs.declared.repodata.Repodata.{Repodata}
-use Rattle.conda_index.specs.Gather.{first_of, is_kept, is_shown, shown, virtual_records}
+use Rattle.conda_index.specs.Gather.{IsGathered, first_of, is_kept, is_shown, shown, virtual_records}
+use Rattle.conda_index.specs.declared.gather.Gathered.{Gathered}
 use Rattle.conda_index.specs.Names.{is_named, is_virtual_name, name_of}
 use Rattle.conda_index.specs.Pools.{channel_pool, first_channel, given, is_of, pool_records, virtual_record}
 use Rattle.conda_index.specs.declared.virtuals.Virtual.{Virtual}
@@ -108,6 +110,38 @@ shown_more before pkg =
         ap (λ o. not (is_virtual_name pkg.name) && is_of o pkg)
         (first_more before pkg (name_of pkg)
         ∙ ap (λ b. cond b (Some (unwrap_or (first_of before (name_of pkg)) pkg.channel)) (first_of before (name_of pkg))) (named_itself pkg))
+
+-- of one name the first channels are one
+alike_first : (before : List PkgRecord) (own name channel : List ℕ) (other : Option (List ℕ))
+    → cond (is_text own name) (Some (unwrap_or (first_of before own) channel)) other
+    ≡ cond (is_text own name) (Some (unwrap_or (first_of before name) channel)) other
+alike_first before own name channel other = by (is_text own name) refl
+  where
+    by : (b : Bool) → is_text own name ≡ b
+        → cond b (Some (unwrap_or (first_of before own) channel)) other ≡ cond b (Some (unwrap_or (first_of before name) channel)) other
+    by true e = ap (λ n. Some (unwrap_or (first_of before n) channel)) (same_text own name e)
+    by false e = refl
+
+-- what was gathered, after one more record
+pub gathered_more : (before : List PkgRecord) (pkg : PkgRecord) (old new : Gathered) → IsGathered before old
+    → ((other : List ℕ) → get (pointwise nat_eq) new.firsts other
+    ≡ cond (pointwise nat_eq (name_of pkg) other) (Some (unwrap_or (get (pointwise nat_eq) old.firsts (name_of pkg)) pkg.channel))
+    (get (pointwise nat_eq) old.firsts other))
+    → (keeps : Bool) → keeps ≡ is_kept (get (pointwise nat_eq) old.firsts (name_of pkg)) pkg
+    → new.records.items ≡ old.records.items ++ cond keeps (pkg ∷ []) []
+    → IsGathered (before ++ pkg ∷ []) new
+gathered_more before pkg old new g known keeps e items = record {
+  firsts = λ name.
+      known name
+      ∙ ap (λ o. cond (is_text (name_of pkg) name) (Some (unwrap_or o pkg.channel)) (get (pointwise nat_eq) old.firsts name)) (g.firsts (name_of pkg))
+      ∙ ap (cond (is_text (name_of pkg) name) (Some (unwrap_or (first_of before (name_of pkg)) pkg.channel))) (g.firsts name)
+      ∙ alike_first before (name_of pkg) name pkg.channel (first_of before name)
+      ∙ sym (first_more before pkg name);
+  kept =
+      items ∙ ap (λ l. l ++ cond keeps (pkg ∷ []) []) g.kept
+      ∙ ap (λ b. shown before ++ cond b (pkg ∷ []) []) (e ∙ ap (λ o. is_kept o pkg) (g.firsts (name_of pkg)))
+      ∙ sym (shown_more before pkg);
+}
 
 -- ---- virtual packages
 

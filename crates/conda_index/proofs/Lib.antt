@@ -5,3 +5,4 @@ pub mod GatherLemmas
 pub mod ReachLemmas
 pub mod RequestLemmas
 pub mod LawLemmas
+pub mod NameLemmas

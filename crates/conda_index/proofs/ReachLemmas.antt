@@ -1,7 +1,8 @@
 -- The names that are reached, and their pools.
-use Rattle.std.specs.Prelude.{◌≡◌, ◌≢◌, ◌↔◌, ℕ, ◌+◌, ◌<◌, ◌≤◌, ◌^◌, zero, suc, Bool, true, false, cond, if◌then◌else◌, List, [], ◌∷◌, ◌++◌, All, Contains, fold, filter, map, length, nat_eq, slice_index_or}
+use Rattle.std.specs.Prelude.{◌≡◌, ◌≢◌, ◌↔◌, ℕ, ◌+◌, ◌<◌, ◌≤◌, ◌^◌, zero, suc, Bool, true, false, cond, if◌then◌else◌, List, [], ◌∷◌, ◌++◌, All, Contains, None, Option, Some, fold, filter, map, length, nat_eq, slice_get, slice_index_or}
 use Rattle.std.proofs.Common.{refl, ap, sym, ◌∙◌, subst, inl, inr, ◌⊎◌, arith, get_or, true≢false}
 use Rattle.std.proofs.lemmas.Cmp.{by_ranked, ranked}
+use Rattle.std.proofs.lemmas.Option.{slice_get_cases}
 use Rattle.std.proofs.lemmas.Str.Ascii.{lowercase-lowercase}
 use Rattle.std.proofs.lemmas.List.{append-nil, get_or_append_left, get_or_default}
 use Rattle.std.proofs.lemmas.List.Elements.{Contains-append_cases, Contains-append_left, Contains-append_right, Contains-get_or, Contains-push, Contains-push_cases}
@@ -257,6 +258,14 @@ module _ (index : List PkgRecord) (asked : List Asked) where
       closed : (from n : List ℕ) → Contains names from → Contains (needs_of (pool_of index from)) n → Contains names n
       closed from n c need =
           w.done c.0 from (omega (arith, c.1)) c.1 n (subst (λ m. Contains (needs_of (pool_of index m)) n) (sym c.2) need)
+
+-- a place behind which nothing stands
+pub past : {X : Type 0} (xs : List X) (i : ℕ) → slice_get xs i ≡ None → length xs ≤ i
+past {X} xs i e = by (slice_get_cases xs i).1
+  where
+    by : ((x : X) × (i < length xs) × (slice_get xs i ≡ Some x) × (get_or xs i x ≡ x)) ⊎ ((length xs ≤ i) × (slice_get xs i ≡ None)) → length xs ≤ i
+    by (inl (x, short, there, is)) = let no : None ≡ Some x = sym e ∙ there in cc
+    by (inr h) = h.0
 
 -- ---- lower case
 

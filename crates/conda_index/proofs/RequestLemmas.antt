@@ -1,6 +1,6 @@
 -- Pools of different names as a request.
 use Rattle.std.specs.Prelude.{◌≡◌, ◌≢◌, ◌↔◌, ℕ, ◌+◌, ◌<◌, ◌≤◌, ◌^◌, zero, suc, Bool, true, false, cond, List, [], ◌∷◌, ◌++◌, All, AllPairs, Contains, filter, map, length, nat_eq, slice_index_or}
-use Rattle.std.proofs.Common.{refl, ap, sym, ◌∙◌, subst, inl, inr, ◌⊎◌, arith, get_or, true≢false}
+use Rattle.std.proofs.Common.{refl, ap, sym, ◌∙◌, subst, inl, inr, ◌⊎◌, arith, get_or, true≢false, zero-add}
 use Rattle.std.proofs.lemmas.Cmp.{nat_list_cmp_total, tied_itself}
 use Rattle.std.proofs.lemmas.List.{length-append}
 use Rattle.std.proofs.lemmas.List.Elements.{All-contains}
@@ -76,7 +76,7 @@ module _ (x : PkgRecord) (xs : List PkgRecord) where
 
 lengths_none : (names : List (List ℕ)) → lengths [] names ≡ 0
 lengths_none [] = refl
-lengths_none (name ∷ names) = lengths_none names
+lengths_none (name ∷ names) = zero-add (lengths [] names) ∙ lengths_none names
 
 -- the pools of different names have no more records than the index
 lengths_few : (index : List PkgRecord) (names : List (List ℕ)) → Lowered names → Different names → lengths index names ≤ length index
@@ -105,7 +105,8 @@ ascends (x ∷ y ∷ rest) s d = (
   ascends_pair x y (s 0 x (omega arith) (omega arith)) d.0.0,
   ascends (y ∷ rest)
       (λ k e low high.
-      ap (λ i. is_lt (slice_cmp nat_cmp (get_or (x ∷ y ∷ rest) i e) (get_or (y ∷ rest) k e))) (omega arith) ∙ s (suc k) e (omega arith) (omega arith))
+      let next : suc (k + 1) ≡ suc k + 1 = omega arith in
+      ap (λ i. is_lt (slice_cmp nat_cmp (get_or (x ∷ y ∷ rest) i e) (get_or (y ∷ rest) k e))) next ∙ s (suc k) e (omega arith) (omega arith))
       d.1,
 )
 

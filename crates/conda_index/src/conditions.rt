@@ -1,4 +1,4 @@
-ghost use Rattle.std.specs.Prelude.{◌≡◌, ◌≤◌, ◌+◌, All, IfOk, IsTrue, length, sum_by, true};
+ghost use Rattle.std.specs.Prelude.{◌≡◌, ◌≤◌, ◌+◌, All, IfOk, IsTrue, length, true};
 ghost use Rattle.conda_path.specs.Dists.{is_dist};
 ghost use Rattle.conda_encode.specs.Variables.{IsPlain};
 ghost use Rattle.conda_index.specs.Pools.{NamesPlainly, given, index_limit, virtual_dist};
@@ -77,11 +77,18 @@ fn name_plainly(records: &[PkgRecord]) -> bool
     ensures { IsTrue result → All NamesPlainly records.now }
 {
     for pkg in records {
-        if !are_plain(pkg.depends.as_slice()) || !are_plain(pkg.constrains.as_slice()) {
+        if !names_plainly(pkg) {
             return false;
         }
     }
     true
+}
+
+/// Whether no entry of the record names packages by a star.
+fn names_plainly(pkg: &PkgRecord) -> bool
+    ensures { IsTrue result → NamesPlainly pkg.now }
+{
+    are_plain(pkg.depends.as_slice()) && are_plain(pkg.constrains.as_slice())
 }
 
 /// Whether no specification has a star in its name.

@@ -15,14 +15,12 @@ pub fn lowered(alloc: Global, name: &str) -> Result<Text, AllocError>
     Ok(Text::from_string(name.to_ascii_lowercase(alloc)?))
 }
 
+#[tactic(auto, using(crate::proofs::NameLemmas::begins_alike))]
 /// Whether virtual packages have such a name.
 pub fn is_virtual_name(name: &str) -> bool
     ensures { result ≡ names.is_virtual_name name.now }
 {
-    match name.as_bytes() {
-        [b'_', b'_', ..] => true,
-        _ => false,
-    }
+    name.as_bytes().starts_with(b"__")
 }
 
 /// The order of two names, compared in lower case. It takes no memory.
