@@ -120,11 +120,7 @@ fn add_needs(
 }
 
 /// Adds the names of specifications.
-fn add_names(
-    alloc: Global,
-    specs: &[Spec],
-    names: &mut IndexSet<Text>,
-) -> Result<(), AllocError>
+fn add_names(alloc: Global, specs: &[Spec], names: &mut IndexSet<Text>) -> Result<(), AllocError>
     ensures { OnOk result (names.new.keys
         ≡ insert_all (pointwise nat_eq) names.old.keys (map (λ spec. lowered spec.name) specs.now)) }
 {

@@ -142,11 +142,7 @@ fn is_of(part: &Repodata, pkg: &PkgRecord) -> bool {
 }
 
 /// Adds a record to the last part, or to a new one where that is another channel's or subdir's.
-fn add_record(
-    alloc: Global,
-    parts: &mut Vec<Repodata>,
-    pkg: PkgRecord,
-) -> Result<(), AllocError> {
+fn add_record(alloc: Global, parts: &mut Vec<Repodata>, pkg: PkgRecord) -> Result<(), AllocError> {
     if let Some(mut part) = parts.pop() {
         if is_of(&part, &pkg) {
             part.recs.push(pkg)?;
