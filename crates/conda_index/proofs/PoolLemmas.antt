@@ -2,7 +2,7 @@
 use Rattle.std.specs.Prelude.{◌≡◌, ℕ, ◌+◌, ◌<◌, ◌≤◌, zero, suc, Bool, true, false, not, cond, ◌&&◌, if◌then◌else◌, List, [], ◌∷◌, ◌++◌, filter, map, length, nat_eq, All}
 use Rattle.std.proofs.Common.{refl, ap, sym, ◌∙◌, subst, arith, get_or, take, drop}
 use Rattle.std.proofs.lemmas.Grind.{flat_map-append}
-use Rattle.std.proofs.lemmas.List.{append-nil, length-append, length-map, take-append-drop, take_more}
+use Rattle.std.proofs.lemmas.List.{append-nil, drop_all, length-append, length-map, take-append-drop, take_all, take_more}
 use Rattle.std.proofs.lemmas.List.Elements.{All-append, All-filter, All-map, All-nil, filter-append}
 use Rattle.std.proofs.lemmas.List.Sorted.{All-permutation, length_permutation}
 use Rattle.std.specs.Cmp.Lexicographic.{pointwise}
@@ -148,6 +148,15 @@ made parts virtuals index plain few same order = record {
       let mapped = length-map virtuals virtual_record in
       omega (arith, long, both, first, second, mapped);
 }
+
+-- a list that was written back over one of its length
+pub whole : {X : Type 0} (lent items new : List X) (n : ℕ) → lent ≡ items → length lent ≡ n → IsPermutation lent new
+    → take n (new ++ drop (length new) items) ≡ new
+whole lent items new n e len same =
+    let long : length new ≡ length lent = length_permutation lent new same in
+    let alike : length lent ≡ length items = ap length e in
+    let none : drop (length new) items ≡ [] = drop_all (length new) items (omega (arith, long, alike)) in
+    ap (λ r. take n (new ++ r)) none ∙ ap (take n) (append-nil new) ∙ take_all n new (omega (arith, long, len))
 
 -- each name has its pool in it
 pub pooled : VersionLaws → (parts : List Repodata) (virtuals : List Virtual) (index : List PkgRecord)

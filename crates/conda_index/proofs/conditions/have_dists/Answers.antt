@@ -1,5 +1,4 @@
 use Rattle.std.proofs.Common.{◌≡◌, ◌∙◌, All, subst, sym, true}
-use Rattle.std.proofs.lemmas.Bool.{not-false}
 use Rattle.std.proofs.lemmas.List.{take_all}
 use Rattle.std.proofs.lemmas.List.Elements.{All-more}
 use Rattle.conda_path.specs.Dists.{is_dist}
@@ -11,7 +10,7 @@ loop-virtual_package-preserved c =
     All-more (λ v. is_dist (virtual_dist v) ≡ true) c.args.virtuals.now c.loop-virtual_package.virtual_package-index
     c.virtual_package-item.result c.loop-virtual_package-test.true c.loop-virtual_package.invariant
     (subst (λ v. is_dist (virtual_dist v) ≡ true) c.virtual_package-item.is
-    (sym c.in_ok-has_dist.ensures ∙ not-false c.in_ok-has_dist.field-0 c.if-not-branch.false))
+    (sym c.in_ok-has_dist.ensures ∙ c.if-not-branch.false))
 
 pub returns : goal.returns
 returns c =

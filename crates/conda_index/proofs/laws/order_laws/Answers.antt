@@ -1,6 +1,3 @@
-use Rattle.std.proofs.Common.{◌≡◌, ℕ, ◌<◌, ap, ◌∙◌}
-use Rattle.std.proofs.lemmas.Nat.{compare_lt}
-use Rattle.std.specs.Ordering.{nat_cmp, ordering_then}
 use Rattle.conda_index.proofs.OrderLemmas.{VersionLaws, index_total, plain_total}
 use Rattle.conda_index.proofs.laws.order_laws.Goals as goal
 

@@ -9,7 +9,7 @@ use Rattle.conda_index.proofs.index.Index.pools_of.Goals as goal
 pub returns-clause-names : goal.returns-clause-names
 returns-clause-names c =
     let all : names_of c.loop-name.pools.items ≡ c.sort.new.self.keys =
-    c.loop-name.invariant.names ∙ take_all c.loop-name.name-index c.as_slice.result.now c.loop-name-test.false ∙ c.as_slice.ensures.keys
+    c.loop-name.invariant.names ∙ take_all c.loop-name.name-index c.as_slice-name-items.result.now c.loop-name-test.false ∙ c.as_slice-name-items.ensures.keys
     in
     let order = c.in_ok-sort.ensures.reordered.0 in
     λ name. (
@@ -22,7 +22,7 @@ returns-clause-names c =
 pub returns-clause-ascending : goal.returns-clause-ascending
 returns-clause-ascending c =
     let all : names_of c.loop-name.pools.items ≡ c.sort.new.self.keys =
-    c.loop-name.invariant.names ∙ take_all c.loop-name.name-index c.as_slice.result.now c.loop-name-test.false ∙ c.as_slice.ensures.keys
+    c.loop-name.invariant.names ∙ take_all c.loop-name.name-index c.as_slice-name-items.result.now c.loop-name-test.false ∙ c.as_slice-name-items.ensures.keys
     in
     subst Ascending (sym all) (ascends c.sort.new.self.keys c.in_ok-sort.ensures.sorted c.in_ok-sort.ensures.unique)
 

@@ -8,14 +8,14 @@ use Rattle.conda_index.proofs.ReachLemmas.{begins, ends, past, walks}
 use Rattle.conda_index.proofs.index.Index.reached.Goals as goal
 
 pub loop-at-init : goal.loop-at-init
-loop-at-init c = begins c.args.self.now c.args.asked.now c.in_ok-names.field-0.keys c.in_ok-names.ensures
+loop-at-init c = begins c.args.self.now c.args.asked.now _ c.in_ok-names.ensures
 
 pub loop-at-preserved : goal.loop-at-preserved
 loop-at-preserved c =
     walks c.args.self.now c.args.asked.now c.loop-at.names.keys c.add_needs.new.names.keys c.loop-at.at c.in-Some.name.now
     (slice_get_within c.loop-at.names.keys c.loop-at.at c.in-Some.name.now (sym c.in-Some.ensures.key))
     (sym (get_or_from_slice_get c.loop-at.names.keys c.loop-at.at c.in-Some.name.now c.in-Some.name.now (sym c.in-Some.ensures.key)))
-    (c.in_ok-add_needs.ensures ∙ ap (λ p. insert_all (pointwise nat_eq) c.loop-at.names.keys (needs_of p)) c.pool.ensures.pool)
+    (c.in_ok-add_needs.ensures ∙ ap (λ p. insert_all (pointwise nat_eq) c.loop-at.names.keys (needs_of p)) c.pool-pool.ensures.pool)
     c.loop-at.invariant
 
 pub returns-in-None : goal.returns-in-None
