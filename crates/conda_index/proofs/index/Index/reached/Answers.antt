@@ -3,6 +3,7 @@ use Rattle.std.specs.Prelude.{nat_eq}
 use Rattle.std.specs.Cmp.Lexicographic.{pointwise}
 use Rattle.std.proofs.lemmas.Option.{get_or_from_slice_get, slice_get_within}
 use Rattle.indexmap.specs.IndexSet.{insert_all}
+use Rattle.conda_index.specs.Pools.{pool_of}
 use Rattle.conda_index.specs.Walk.{needs_of}
 use Rattle.conda_index.proofs.ReachLemmas.{begins, ends, past, walks}
 use Rattle.conda_index.proofs.index.Index.reached.Goals as goal
@@ -15,7 +16,8 @@ loop-at-preserved c =
     walks c.args.self.now c.args.asked.now c.loop-at.names.keys c.add_needs.new.names.keys c.loop-at.at c.in-Some.name.now
     (slice_get_within c.loop-at.names.keys c.loop-at.at c.in-Some.name.now (sym c.in-Some.ensures.key))
     (sym (get_or_from_slice_get c.loop-at.names.keys c.loop-at.at c.in-Some.name.now c.in-Some.name.now (sym c.in-Some.ensures.key)))
-    (c.in_ok-add_needs.ensures ∙ ap (λ p. insert_all (pointwise nat_eq) c.loop-at.names.keys (needs_of p)) c.pool-pool.ensures.pool)
+    (c.in_ok-add_needs.ensures ∙ ap (λ p. insert_all (pointwise nat_eq) c.loop-at.names.keys (needs_of p))
+    (c.pool-pool.ensures.pool ∙ ap (pool_of c.args.self.now) c.as_str.ensures))
     c.loop-at.invariant
 
 pub returns-in-None : goal.returns-in-None
