@@ -2,9 +2,25 @@
 #![tactic(auto)]
 
 mod asked;
+mod clauses;
+mod cut;
 mod encoded;
+mod encoding;
 mod error;
+mod flat;
+mod known;
+mod laws;
+mod marks;
+mod matching;
+mod once;
+mod reach;
+mod write;
+mod written;
 
 pub use asked::{AskKind, Asked};
+pub use cut::set_of;
 pub use encoded::{Encoded, Why};
+pub use encoding::encode;
 pub use error::EncodeErr;
+pub use laws::encode_laws;
+pub use matching::names_record;

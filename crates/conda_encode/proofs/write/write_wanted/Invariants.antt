@@ -1,0 +1,10 @@
+use Rattle.std.proofs.Common.{◌≡◌, ◌++◌, take}
+use Rattle.conda_encode.specs.Clauses.{wanted}
+use Rattle.conda_encode.specs.Known.{IsKnown}
+use Rattle.conda_encode.proofs.write.write_wanted.Given as goal
+
+abbrev pub invariant-loop-place : goal.invariant-loop-place
+invariant-loop-place l = record {
+  known : IsKnown l.pools l.known;
+  written : l.written ≡ l.initial.written ++ wanted l.pools (take l.place l.items);
+}
