@@ -105,9 +105,13 @@ impl Watches {
 
     /// The same, to be put in another order. None where there are none.
     pub fn clause_mut(&mut self, clause: u32) -> Option<&mut [i32]> {
-        let slot = *self.slots.get(clause as usize)?;
-        let start = slot.start as usize;
-        let end = start + slot.length as usize;
+        let (start, end) = match self.slots.get(clause as usize) {
+            Some(slot) => {
+                let start = slot.start as usize;
+                (start, start + slot.length as usize)
+            }
+            None => return None,
+        };
         if start < end && end <= self.literals.len() {
             Some(&mut self.literals[start..end])
         } else {
