@@ -2,10 +2,10 @@ ghost use Rattle.std.specs.Prelude.{◌≡◌, MatchOption, None, Some};
 ghost use Rattle.conda_checked.specs.Lacks.{lacks_of, no_lacks};
 
 use crate::lack::{Lack, Lacks};
+use conda_device::Counted;
 
 /// A handle on a channel or on the cache whose reads are checked: it counts the needed files that
-/// were absent, and those whose size or digest differed. Its faults are those of `inner`. Only its
-/// own reads raise the two counts.
+/// were absent, and those whose size or digest differed. Only its own reads raise the two counts.
 #[derive(Debug, Drop)]
 pub struct Checked<T> {
     pub inner: T,
@@ -46,5 +46,14 @@ impl<T> Checked<T> {
             (λ lack. (lacks_of self.now).last ≡ Some lack.now) }
     {
         self.lacks.last.as_ref()
+    }
+}
+
+impl<T: Counted> Checked<T> {
+    /// How often it failed: the count of `inner`. It takes no memory.
+    pub fn faults(&self) -> u64
+        ensures { result ≡ T.faults self.now.inner }
+    {
+        self.inner.faults()
     }
 }

@@ -11,8 +11,8 @@ mod tree;
 
 pub use clock::FixedClock;
 pub use conda_device::{
-    Abilities, Chan, Clock, DeviceErr, Failed, FaultCount, Got, Host, In, Lane, Out, Seen, Shown,
-    Store, Touch, Touched, tree_laws,
+    Abilities, Chan, Clock, Counted, DeviceErr, Failed, FaultCount, Got, Host, In, Lane, Out, Seen,
+    Shown, Store, Touch, Touched, tree_laws,
 };
 pub use conda_mem::{Effect, FailAt, MemChan, MemStore, Target};
 pub use mem_host::MemHost;

@@ -11,7 +11,7 @@ use crate::mem_lane::MemLane;
 use crate::place::{Place, add_faults, first_places, lanes_at, lend, return_lanes, whole_tree};
 use crate::tree::Tree;
 use conda_base::{Rows, Text};
-use conda_device::{Abilities, Chan, DeviceErr, FaultCount, Host, Lane};
+use conda_device::{Abilities, Chan, Counted, DeviceErr, FaultCount, Host, Lane};
 use conda_mem::{
     Cache, Effect, FailAt, Files, Gots, MemChan, MemStore, Meter, Planned, Target, channels_of,
     files_named,
@@ -141,7 +141,7 @@ impl<R: Wait + Clone + Drop> MemHost<R> {
         ensures files { IfOk result (λ chan. ⟦<MemChan as Chan>⟧.files chan
             ≡ (host_state self.old).files [] name.now) }
         ensures asked { IfOk result (λ chan. ⟦<MemChan as Chan>⟧.asked chan ≡ Some []) }
-        ensures unharmed { IfOk result (λ chan. ⟦<MemChan as Chan>⟧.faults chan ≡ 0) }
+        ensures unharmed { IfOk result (λ chan. ⟦<MemChan as Counted>⟧.faults chan ≡ 0) }
     {
         let files = files_named(alloc, &self.channels, name)?;
         let plan = self.lending.plan(alloc, &Target::Chan(self.lending.chans))?;
@@ -215,7 +215,7 @@ impl<R: Wait + Clone + Send + Drop> Host for MemHost<R> {
     }
 
     fn chan_back(&mut self, chan: MemChan)
-        ensures { TakesChan (⟦<MemChan as Chan>⟧.faults chan)
+        ensures { TakesChan (⟦<MemChan as Counted>⟧.faults chan)
             (host_state self.old) (host_state self.new) }
     {
         self.chan_faults.add(chan.faults());

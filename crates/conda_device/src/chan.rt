@@ -6,6 +6,7 @@ ghost use Rattle.conda_device.specs.Channels.{Files, ListsFolders, asked_too, fi
 ghost use Rattle.conda_device.specs.Channels.{shown_of};
 ghost use Rattle.conda_device.specs.Fault.{BeforeOrAsked, HasDeviceCause};
 
+use crate::count::Counted;
 use crate::fault::DeviceErr;
 use conda_base::{Bytes, Copied, Text};
 use std::alloc::{AllocError, Global};
@@ -18,23 +19,17 @@ pub enum Shown {
 }
 
 /// One handle on a channel. No call changes the channel's files.
-pub trait Chan: Send + Drop {
+pub trait Chan: Counted + Send + Drop {
     /// The channel's files, where it tells them.
     ghost files: { Self → Option Files };
     /// The paths that this handle was asked to read, where it tells them.
     ghost asked: { Self → Option (List (List ℕ)) };
-    /// The count of faults.
-    ghost faults: { Self → ℕ };
-
-    /// How often it failed. The count never falls, and stands still at the last value of its type.
-    fn faults(&self) -> u64
-        ensures { result ≡ faults self.now };
 
     /// What stands at a path, or None where nothing does.
     fn look(&mut self, alloc: Global, path: &str) -> Result<Option<Shown>, DeviceErr>
         ensures shown { IfOk result (λ shown. IfSome (files self.old)
             (λ all. shown ≡ option_map shown_of (map.get all path.now))) }
-        ensures cause { HasDeviceCause (faults self.old) (faults self.new) result }
+        ensures cause { HasDeviceCause (Self.faults self.old) (Self.faults self.new) result }
         ensures files { files self.new ≡ files self.old }
         ensures asked { asked self.new ≡ asked self.old };
 
@@ -48,7 +43,7 @@ pub trait Chan: Send + Drop {
         ensures asked { OnOk result (asked self.new ≡ asked_too (asked self.old) path.now) }
         ensures err { OnErr result (BeforeOrAsked (asked self.old)
             (asked_too (asked self.old) path.now) (asked self.new)) }
-        ensures cause { HasDeviceCause (faults self.old) (faults self.new) result }
+        ensures cause { HasDeviceCause (Self.faults self.old) (Self.faults self.new) result }
         ensures files { files self.new ≡ files self.old };
 
     /// The names of the folders in a subdir that have `info/index.json`, ascending by bytes. There
@@ -57,7 +52,7 @@ pub trait Chan: Send + Drop {
         ensures names { IfOk result (λ names. IfSome (files self.old)
             (λ all. ListsFolders all subdir.now names.items)) }
         ensures ascending { IfOk result (λ names. Ascending names.items) }
-        ensures cause { HasDeviceCause (faults self.old) (faults self.new) result }
+        ensures cause { HasDeviceCause (Self.faults self.old) (Self.faults self.new) result }
         ensures files { files self.new ≡ files self.old }
         ensures asked { asked self.new ≡ asked self.old };
 }

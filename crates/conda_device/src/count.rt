@@ -1,4 +1,4 @@
-ghost use Rattle.std.specs.Prelude.{◌≡◌, ◌+◌, ◌-◌, ◌^◌, ◌≤◌, min};
+ghost use Rattle.std.specs.Prelude.{◌≡◌, ◌+◌, ◌-◌, ◌^◌, ◌≤◌, ℕ, min};
 ghost use Rattle.conda_device.specs.Fault.{Rose};
 
 /// A count of faults. It stands still at the last value of its type.
@@ -30,4 +30,14 @@ impl FaultCount {
     {
         self.count = self.count.saturating_add(faults);
     }
+}
+
+/// A device that counts its faults.
+pub trait Counted {
+    /// The count of faults.
+    ghost faults: { Self → ℕ };
+
+    /// How often it failed. The count never falls, and stands still at the last value of its type.
+    fn faults(&self) -> u64
+        ensures { result ≡ faults self.now };
 }

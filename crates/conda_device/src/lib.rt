@@ -15,7 +15,7 @@ mod trees;
 
 pub use chan::{Chan, Shown};
 pub use clock::Clock;
-pub use count::FaultCount;
+pub use count::{Counted, FaultCount};
 pub use fault::{DeviceErr, Failed};
 pub use host::Host;
 pub use lane::{Abilities, Lane, Seen};

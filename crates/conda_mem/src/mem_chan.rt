@@ -5,7 +5,7 @@ use crate::hold::Hold;
 use crate::meter::Meter;
 use crate::watch::Watch;
 use conda_base::Text;
-use conda_device::{Chan, DeviceErr, Shown};
+use conda_device::{Chan, Counted, DeviceErr, Shown};
 use std::alloc::{AllocError, Global};
 use std::sync::Arc;
 
@@ -31,7 +31,7 @@ impl MemChan {
     ) -> MemChan
         ensures files { ⟦<MemChan as Chan>⟧.files result ≡ Some files }
         ensures asked { ⟦<MemChan as Chan>⟧.asked result ≡ Some [] }
-        ensures faults { ⟦<MemChan as Chan>⟧.faults result ≡ meter.faults.count }
+        ensures faults { ⟦<MemChan as Counted>⟧.faults result ≡ meter.faults.count }
     {
         MemChan {
             files,
@@ -70,16 +70,18 @@ fn keep(asked: &mut Vec<Text>, path: Text) -> Result<(), AllocError>
     Ok(())
 }
 
-impl Chan for MemChan {
-    ghost files = { λ chan. Some chan.files };
-
-    ghost asked = { λ chan. Some chan.asked.items };
-
+impl Counted for MemChan {
     ghost faults = { λ chan. chan.meter.faults.count };
 
     fn faults(&self) -> u64 {
         self.meter.faults.count
     }
+}
+
+impl Chan for MemChan {
+    ghost files = { λ chan. Some chan.files };
+
+    ghost asked = { λ chan. Some chan.asked.items };
 
     fn look(&mut self, alloc: Global, path: &str) -> Result<Option<Shown>, DeviceErr> {
         if self.meter.next().is_some() {

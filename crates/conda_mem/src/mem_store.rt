@@ -9,7 +9,7 @@ use crate::fault::Effect;
 use crate::gots::Room;
 use crate::meter::Meter;
 use conda_base::{Copied, Text};
-use conda_device::{DeviceErr, Failed, Got, Store, Touch, Touched};
+use conda_device::{Counted, DeviceErr, Failed, Got, Store, Touch, Touched};
 use conda_path::{Digest, RelPath, SlotKey};
 use sha2::{Digest as _, Sha256};
 use std::alloc::{AllocError, Global};
@@ -162,16 +162,18 @@ impl<R: Wait + Drop> MemStore<R> {
     }
 }
 
-impl<R: Wait + Send + Drop> Store for MemStore<R> {
-    ghost use Rattle.std.specs.Prelude.{Some};
-
-    ghost told = { λ store. Some (record { touched = store.touched.items; got = store.got }) };
-
+impl<R: Wait + Drop> Counted for MemStore<R> {
     ghost faults = { λ store. store.meter.faults.count };
 
     fn faults(&self) -> u64 {
         self.meter.faults.count
     }
+}
+
+impl<R: Wait + Send + Drop> Store for MemStore<R> {
+    ghost use Rattle.std.specs.Prelude.{Some};
+
+    ghost told = { λ store. Some (record { touched = store.touched.items; got = store.got }) };
 
     fn list(&mut self, alloc: Global) -> Result<Vec<Text>, DeviceErr> {
         if self.meter.next().is_some() {

@@ -2,7 +2,7 @@ ghost use Rattle.std.specs.Prelude.{◌≡◌};
 ghost use Rattle.conda_files.specs.Refusals.{device_count_after};
 
 use conda_base::{Bytes, Text};
-use conda_device::{Chan, DeviceErr, FaultCount, Seen, Shown};
+use conda_device::{Chan, Counted, DeviceErr, FaultCount, Seen, Shown};
 use conda_files::{
     Found, answered, bytes_at, done, found_at, is_inside, ordered_folders_with, place_in,
     target_bytes,
@@ -59,18 +59,20 @@ fn shown_at(
     }
 }
 
+impl<R: Files + AllocGlobal + Clone + Drop> Counted for RealChan<R> {
+    ghost faults = { λ chan. chan.faults.count };
+
+    fn faults(&self) -> u64 {
+        self.faults.count
+    }
+}
+
 impl<R: Files + AllocGlobal + Clone + Send + Drop> Chan for RealChan<R> {
     ghost use Rattle.std.specs.Prelude.{None};
 
     ghost files = { λ _. None };
 
     ghost asked = { λ _. None };
-
-    ghost faults = { λ chan. chan.faults.count };
-
-    fn faults(&self) -> u64 {
-        self.faults.count
-    }
 
     fn look(&mut self, alloc: Global, path: &str) -> Result<Option<Shown>, DeviceErr> {
         if !is_inside(path) {

@@ -10,7 +10,7 @@ use crate::chan::RealChan;
 use crate::lane::RealLane;
 use crate::store::RealStore;
 use conda_base::{Copied, Text};
-use conda_device::{Chan, DeviceErr, FaultCount, Host, Lane, Store};
+use conda_device::{Chan, Counted, DeviceErr, FaultCount, Host, Lane, Store};
 use conda_files::place_in;
 use conda_path::Prefix;
 use std::alloc::{AllocError, Global};
@@ -155,7 +155,7 @@ impl<R: Files + AllocGlobal + Clone + Send + Drop> Host for RealHost<R> {
     }
 
     fn chan_back(&mut self, chan: RealChan<R>)
-        ensures { TakesChan (⟦<RealChan<R> as Chan>⟧.faults chan)
+        ensures { TakesChan (⟦<RealChan<R> as Counted>⟧.faults chan)
             (⟦<RealHost<R> as Host>⟧.state self.old) (⟦<RealHost<R> as Host>⟧.state self.new) }
     {
         self.chan_faults.add(chan.faults());
@@ -168,7 +168,7 @@ impl<R: Files + AllocGlobal + Clone + Send + Drop> Host for RealHost<R> {
 
     fn store_back(&mut self, store: RealStore<R>)
         ensures { TakesStore (last_got (⟦<RealStore<R> as Store>⟧.told store))
-            (⟦<RealStore<R> as Store>⟧.faults store)
+            (⟦<RealStore<R> as Counted>⟧.faults store)
             (⟦<RealHost<R> as Host>⟧.state self.old) (⟦<RealHost<R> as Host>⟧.state self.new) }
     {
         self.store_faults.add(store.faults());

@@ -1,7 +1,7 @@
 ghost use Rattle.std.specs.Prelude.{◌≡◌};
 
 use conda_base::Text;
-use conda_device::{DeviceErr, Failed, FaultCount, Store};
+use conda_device::{Counted, DeviceErr, Failed, FaultCount, Store};
 use conda_files::{
     MARK, answered, bytes_at, done, is_absent, make, place_in, ready_keys, slot_folder,
     temporary_place,
@@ -65,16 +65,18 @@ fn without_mark(removed: io::Result<()>) -> io::Result<()> {
     }
 }
 
-impl<R: Files + AllocGlobal + Clone + Send + Drop> Store for RealStore<R> {
-    ghost use Rattle.std.specs.Prelude.{None};
-
-    ghost told = { λ _. None };
-
+impl<R: Files + AllocGlobal + Clone + Drop> Counted for RealStore<R> {
     ghost faults = { λ store. store.faults.count };
 
     fn faults(&self) -> u64 {
         self.faults.count
     }
+}
+
+impl<R: Files + AllocGlobal + Clone + Send + Drop> Store for RealStore<R> {
+    ghost use Rattle.std.specs.Prelude.{None};
+
+    ghost told = { λ _. None };
 
     fn list(&mut self, alloc: Global) -> Result<Vec<Text>, DeviceErr> {
         let found = ready_keys(alloc, &self.rt, self.root.as_str());

@@ -1,5 +1,5 @@
 use conda_base::{Rows, Text};
-use conda_dev::{Chan, DeviceErr, Host, MemChan, MemHost, Shown};
+use conda_dev::{Chan, Counted, DeviceErr, Host, MemChan, MemHost, Shown};
 use conda_path::Node;
 use rows_plan::{named_nodes, plan_of};
 use std::alloc::{AllocError, Global};

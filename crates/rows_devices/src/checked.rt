@@ -118,7 +118,7 @@ fn over_cache<R: Wait + Sync>(
         made.push_str(call_store(alloc, &mut store, &key, call.trim())?.as_str())?;
         made.push_str("; ")?;
     }
-    let faults = store.inner.faults();
+    let faults = store.faults();
     push_counts(
         &mut made,
         alloc,
@@ -195,7 +195,7 @@ fn push_chan<C: Chan>(
         alloc,
         chan.absents(),
         chan.mismatches(),
-        chan.inner.faults(),
+        chan.faults(),
     )?;
     push_lack(made, alloc, chan.last())
 }

@@ -1,6 +1,6 @@
 use crate::chan::{host_of, shown_bytes};
 use conda_base::Text;
-use conda_dev::{Chan, DeviceErr, Host};
+use conda_dev::{Chan, Counted, DeviceErr, Host};
 use std::alloc::{AllocError, Global};
 use std::sync::Wait;
 use std::thread;

@@ -1,6 +1,6 @@
 use crate::chan::{shown_bytes, shown_list};
 use conda_base::{Rows, Text};
-use conda_dev::{Got, Host, MemHost, MemStore, Store, Touch, Touched};
+use conda_dev::{Counted, Got, Host, MemHost, MemStore, Store, Touch, Touched};
 use conda_path::{Digest, Dist, Node, RelPath, SlotKey};
 use rows_plan::{node_of, path_of, plan_of, word};
 use std::alloc::{AllocError, Global};

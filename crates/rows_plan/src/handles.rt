@@ -1,5 +1,5 @@
 use conda_base::Text;
-use conda_device::{Chan, Shown, Store};
+use conda_device::{Chan, Counted, Shown, Store};
 use conda_path::{Dist, RelPath, SlotKey};
 use std::alloc::{AllocError, Global};
 
