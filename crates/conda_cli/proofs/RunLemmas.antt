@@ -13,7 +13,12 @@ use Rattle.conda_history.specs.declared.revision.History.{History}
 use Rattle.conda_cli.specs.declared.fault.Fault.{Fault}
 use Rattle.conda_cli.specs.declared.fault.Fault.TheVariants.{NoEnv, LongHistory, BadHistory, EnvFault, HostFault, Memory}
 use Rattle.conda_cli.specs.Faults.{status_of}
-use Rattle.conda_cli.specs.Answers.{Answer, AnswersWith, EndsWith, IsCause, IsFaultOf, IsGiven, IsGood, IsPut, IsQuiet, IsReportAnswer, IsReported, Reports, ReportsExactly, Told, history_in, history_limit, refusal}
+use Rattle.conda_cli.specs.Answers.{Answer, AnswersWith, Devices, EndsWith, IsCause, IsFaultOf, IsGiven, IsGood, IsPut, IsQuiet, IsRefusal, IsReportAnswer, IsReportOf, IsReported, IsRevisionsOf, Reports, ReportsExactly, Told, history_in, history_limit, refusal}
+use Rattle.conda_cli.specs.Runs.{Does, IsUnread, Refuses, Runs, RunsReport, RunsVerb}
+use Rattle.conda_words.specs.declared.command.Command.{Command}
+use Rattle.conda_words.specs.declared.command.Verb.{Verb}
+use Rattle.conda_words.specs.declared.command.Verb.TheVariants as verbs
+use Rattle.conda_words.specs.declared.error.Why.{Why}
 
 -- what conda_history says of reading
 pub record Laws : Type 0 where
@@ -217,3 +222,62 @@ reports_all laws Is zero prefix status before now x gives is =
           (exact Is tree prefix status before now told quiet g);
       faults = fault_rose Is zero prefix before now status g;
     }
+
+-- ---- want of memory before the words are read as anything
+
+module _ {H K I : Type 0} where
+  -- the line of want of memory was given, and no device but the output was touched
+  pub record Starved (status : ℕ) (before now : Devices H K I) : Type 0 where
+    pub answers : AnswersWith (IsRefusal Memory) status before.told.output now.told.output
+    pub host : now.host ≡ before.host
+    pub told : now.told.host ≡ before.told.host
+    pub unread : IsUnread before now
+
+  memory_said : (status : ℕ) (before now : Devices H K I) → (s : Starved status before now) → s.answers.0 ≡ refusal Memory []
+  memory_said status before now s = elim s.answers.1 as (λ _. s.answers.0 ≡ refusal Memory []) [ inl same ↦ same | inr same ↦ same ]
+
+  put_five : (status : ℕ) (before now : Devices H K I) → (s : Starved status before now)
+      → IsPut s.answers.0 status before.told.output now.told.output → status ≡ 5
+  put_five status before now s put = put.0 ∙ ap (λ a. a.status) (memory_said status before now s)
+
+  starved_report : (Is : List Block → Answer → Type 0) (prefix : List ℕ) (status : ℕ) (before now : Devices H K I)
+      → Starved status before now → RunsReport Is prefix status before now
+  starved_report Is prefix status before now s = record {
+    reports = record {
+      answers = (s.answers.0, inr (Memory, tt, memory_said status before now s), s.answers.2);
+      exactly = λ tree told quiet. reports_memory Is prefix (history_in tree) status before.told.output now.told.output
+          (put_five status before now s (given_whole s.answers.0 status before.told.output now.told.output quiet.output s.answers.2));
+      faults = λ three. elim s.answers.2 as (λ _. Rises before.told now.told) [
+        | inl put ↦ let five = put_five status before now s put in absurd (omega arith)
+        | inr cut ↦ inr (inr cut.1)
+      ];
+    };
+    unread = s.unread;
+  }
+
+  starved_refusal : (fault : Fault) (status : ℕ) (before now : Devices H K I) → Starved status before now → Refuses fault status before now
+  starved_refusal fault status before now s = record {
+    answers = (s.answers.0, inr (memory_said status before now s), s.answers.2);
+    host = s.host;
+    unread = s.unread;
+  }
+
+  starved_verb : (verb : Verb) (prefixes : List (List ℕ)) (status : ℕ) (before now : Devices H K I)
+      → Starved status before now → RunsVerb verb prefixes status before now
+  starved_verb verbs.List (prefix ∷ []) status before now s = starved_report (IsReportOf prefix) prefix status before now s
+  starved_verb verbs.Revisions (prefix ∷ []) status before now s = starved_report IsRevisionsOf prefix status before now s
+  starved_verb _ _ status before now s = starved_refusal _ status before now s
+
+  starved_does : (read : Read Command (ℕ × Why)) (status : ℕ) (before now : Devices H K I)
+      → Starved status before now → Does read status before now
+  starved_does (Ok command) status before now s = starved_verb command.verb command.prefixes status before now s
+  starved_does (Err fault) status before now s = starved_refusal _ status before now s
+
+  -- whatever the words are read as
+  pub starved_runs : (read : Read Command (ℕ × Why)) (status : ℕ) (before now : Devices H K I)
+      → Starved status before now → Runs read status before now
+  starved_runs read status before now s = record {
+    does = starved_does read status before now s;
+    trees = λ prefix. ap (λ h. h.told prefix) s.told;
+    lent = λ prefix. ap (λ h. h.lent prefix) s.told;
+  }

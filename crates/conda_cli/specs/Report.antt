@@ -6,6 +6,7 @@ use Rattle.std.specs.Cmp.Lexicographic.{slice_cmp}
 use Rattle.conda_history.specs.Stamps.{moment_text}
 use Rattle.conda_history.specs.Texts.{added_line, removed_line}
 use Rattle.conda_history.specs.declared.revision.Block.{Block}
+use Rattle.conda_history.specs.declared.stamp.Stamp.{Stamp}
 use Rattle.conda_path.specs.Dists.{dist_name, dist_version, dist_build}
 
 -- by name, then by the whole dist
@@ -25,10 +26,14 @@ dist_line dist = dist_name dist ++ 32 ∷ (dist_version dist ++ 32 ∷ (dist_bui
 abbrev pub list_text : List ℕ → List (List ℕ) → List ℕ
 list_text prefix dists = codes "# packages in environment at " ++ (prefix ++ 58 ∷ 10 ∷ flat_map dist_line dists)
 
--- `N YYYY-MM-DD HH:MM:SS`, then the dists that the revision takes out of the set, then those that it brings in
+-- `N YYYY-MM-DD HH:MM:SS`
+abbrev pub heading_text : ℕ → Stamp → List ℕ
+heading_text number stamp = decimal number ++ 32 ∷ (moment_text stamp ++ 10 ∷ [])
+
+-- the heading, then the dists that the revision takes out of the set, then those that it brings in
 abbrev pub revision_text : ℕ → Block → List ℕ
 revision_text number change =
-    decimal number ++ 32 ∷ (moment_text change.stamp ++ 10 ∷ (flat_map removed_line change.removed ++ flat_map added_line change.added))
+    heading_text number change.stamp ++ (flat_map removed_line change.removed ++ flat_map added_line change.added)
 
 abbrev pub revisions_from : ℕ → List Block → List ℕ
 revisions_from number [] = []

@@ -1,9 +1,9 @@
 ghost use Rattle.std.specs.Prelude.{◌≡◌, ◌<◌, ◌++◌, ◌∷◌, IfOk, OnOk, flat_map, string_bytes};
 ghost use Rattle.conda_history.specs.Texts.{ended};
-ghost use Rattle.conda_cli.specs.Report.{IsByName, dist_line, list_text, name_cmp};
+ghost use Rattle.conda_cli.specs.Report.{IsByName, dist_line, heading_text, list_text, name_cmp};
 ghost use Rattle.conda_cli.specs.Report.{revision_text, revisions_text};
 
-use conda_history::Block;
+use conda_history::{Block, Stamp};
 use conda_path::{Dist, Prefix};
 use std::alloc::{AllocError, Global};
 use std::cmp::Ordering;
@@ -67,14 +67,23 @@ fn push_signed(text: &mut String, sign: char, dists: &[Dist]) -> Result<(), Allo
     Ok(())
 }
 
+/// Appends the line of a revision's number and moment.
+fn push_heading(text: &mut String, number: u64, stamp: Stamp) -> Result<(), AllocError>
+    ensures { OnOk result (string_bytes text.new
+        ≡ string_bytes text.old ++ heading_text number stamp) }
+{
+    write!(text, "{number}")?;
+    text.push(' ')?;
+    stamp.push_text(text)?;
+    text.push('\n')?;
+    Ok(())
+}
+
 fn push_revision(text: &mut String, number: u64, change: &Block) -> Result<(), AllocError>
     ensures { OnOk result (string_bytes text.new
         ≡ string_bytes text.old ++ revision_text number change.now) }
 {
-    write!(text, "{number}")?;
-    text.push(' ')?;
-    change.stamp.push_text(text)?;
-    text.push('\n')?;
+    push_heading(text, number, change.stamp)?;
     push_signed(text, '-', change.removed.as_slice())?;
     push_signed(text, '+', change.added.as_slice())
 }

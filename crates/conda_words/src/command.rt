@@ -1,3 +1,5 @@
+ghost use Rattle.std.specs.Prelude.{◌≡◌, IfOk};
+
 use conda_base::{Copied, Rows, Text};
 use conda_path::Prefix;
 use std::alloc::AllocError;
@@ -43,7 +45,7 @@ pub struct Virtual {
 }
 
 /// A command with its options and words.
-#[derive(Clone, Debug, PartialEq, Eq, Drop)]
+#[derive(Debug, PartialEq, Eq, Drop)]
 pub struct Command {
     pub verb: Verb,
     /// The prefixes that `-p` gives, in order.
@@ -62,6 +64,46 @@ pub struct Command {
     pub copy: bool,
     /// The specifications or names, in order.
     pub words: Rows<Text>,
+}
+
+/// The lists of a command: prefixes, channels, virtual packages and words.
+type Lists = (Rows<Prefix>, Rows<Text>, Rows<Virtual>, Rows<Text>);
+
+impl Command {
+    /// Equal lists.
+    fn lists(&self) -> Result<Lists, AllocError>
+        ensures { IfOk result (λ made. made
+            ≡ (self.now.prefixes, self.now.channels, self.now.virtuals, self.now.words)) }
+    {
+        let prefixes = self.prefixes.copy()?;
+        let channels = self.channels.copy()?;
+        let virtuals = self.virtuals.copy()?;
+        let words = self.words.copy()?;
+        Ok((prefixes, channels, virtuals, words))
+    }
+}
+
+impl Clone for Command {
+    ghost use Rattle.std.specs.Prelude.{◌≡◌};
+
+    ghost is_clone = { λ command made. made ≡ command };
+
+    fn clone(&self) -> Result<Command, AllocError> {
+        let (prefixes, channels, virtuals, words) = self.lists()?;
+        let channel_dir = self.channel_dir.copy()?;
+        let pkgs_dir = self.pkgs_dir.copy()?;
+        Ok(Command {
+            verb: self.verb,
+            prefixes,
+            channels,
+            channel_dir,
+            pkgs_dir,
+            jobs: self.jobs,
+            virtuals,
+            copy: self.copy,
+            words,
+        })
+    }
 }
 
 /// A command of a script.
