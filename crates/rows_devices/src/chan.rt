@@ -1,3 +1,4 @@
+use crate::lane::stop_at;
 use conda_base::{Rows, Text};
 use conda_dev::{Chan, Counted, DeviceErr, Host, MemChan, MemHost, Shown};
 use conda_path::Node;
@@ -127,7 +128,7 @@ fn told_by(alloc: Global, made: &mut String, chans: &[MemChan]) -> Result<(), Al
 }
 
 /// Opens so many handles on the channel of this name, makes calls of them, and tells of each its
-/// faults and what it was asked to read.
+/// faults and what it was asked to read. The plan may also be a target that fails from a call on.
 pub fn run_chans<R: Wait + Clone + Send + Drop>(
     rt: R,
     alloc: Global,
@@ -137,6 +138,7 @@ pub fn run_chans<R: Wait + Clone + Send + Drop>(
     calls: &str,
 ) -> Result<Option<String>, AllocError> {
     let mut host = host_of(rt, alloc, plan, files)?;
+    stop_at(alloc, &mut host, plan)?;
     let mut chans = Vec::new(alloc);
     for name in open.split_whitespace() {
         match host.chan(alloc, "/channels", name) {

@@ -242,7 +242,7 @@ pub fn run_in_host<R: Wait + Sync>(
 }
 
 /// Makes a target fail from a call on, where the text is `TARGET from CALL EFFECT`.
-fn stop_at<R: Wait + Clone + Drop>(
+pub fn stop_at<R: Wait + Clone + Drop>(
     alloc: Global,
     host: &mut MemHost<R>,
     text: &str,

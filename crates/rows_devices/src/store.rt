@@ -1,4 +1,5 @@
 use crate::chan::{shown_bytes, shown_list};
+use crate::lane::stop_at;
 use conda_base::{Rows, Text};
 use conda_dev::{Counted, Got, Host, MemHost, MemStore, Store, Touch, Touched};
 use conda_path::{Digest, Dist, Node, RelPath, SlotKey};
@@ -190,7 +191,8 @@ fn told_by<R: Wait + Send + Drop>(
 }
 
 /// Opens so many handles on the cache, makes calls of them, and tells of each its faults, what it
-/// was asked to change, and what it read last.
+/// was asked to change, and what it read last. The plan may also be a target that fails from a call
+/// on.
 pub fn run_stores<R: Wait + Clone + Send + Drop>(
     rt: R,
     alloc: Global,
@@ -200,8 +202,9 @@ pub fn run_stores<R: Wait + Clone + Send + Drop>(
     calls: &str,
 ) -> Result<Option<String>, AllocError> {
     let cached = cached_of(alloc, cached)?;
-    let plan = plan_of(alloc, plan)?;
-    let mut host = MemHost::make(rt, alloc, Vec::new(alloc), Vec::new(alloc), cached, plan)?;
+    let fails = plan_of(alloc, plan)?;
+    let mut host = MemHost::make(rt, alloc, Vec::new(alloc), Vec::new(alloc), cached, fails)?;
+    stop_at(alloc, &mut host, plan)?;
     let mut stores = Vec::new(alloc);
     for _ in 0..handles.parse::<u32>().unwrap_or(0) {
         match host.store(alloc, "/pkgs") {
