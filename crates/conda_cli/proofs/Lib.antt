@@ -2,3 +2,4 @@ pub mod NameOrder
 pub mod FoundLemmas
 pub mod ListLemmas
 pub mod RunLemmas
+pub mod ReportLemmas

@@ -1,6 +1,6 @@
 -- What the first bytes of a history say of it.
 use Rattle.std.proofs.Common.{inl, inr, ◌≡◌, ℕ, ◌+◌, ◌≤◌, ◌<◌, List, length, take, Option, Some, None, option_map, refl, sym, ap, subst, ◌∙◌, arith}
-use Rattle.std.specs.Prelude.{Err, IfSome, Ok, Result, String, ◌⊎◌}
+use Rattle.std.specs.Prelude.{Err, IfSome, Result, String, ◌⊎◌}
 use Rattle.std.specs.declared.alloc.Global.{Global}
 use Rattle.std.proofs.lemmas.List.{length-take, take_all}
 use Rattle.conda_dev.specs.Hosts.{HostState}

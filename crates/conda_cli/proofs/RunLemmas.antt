@@ -1,5 +1,5 @@
 -- From why a run that reports on a history has its answer to what it answers where no count rises.
-use Rattle.std.proofs.Common.{inl, inr, [], ◌≡◌, ◌↔◌, ◌<◌, ◌≤◌, ℕ, List, Option, Some, None, refl, sym, ap, subst, ◌∙◌, arith, length}
+use Rattle.std.proofs.Common.{inl, inr, [], ◌∷◌, ◌≡◌, ◌↔◌, ◌<◌, ◌≤◌, ℕ, List, Option, Some, None, refl, sym, ap, subst, ◌∙◌, arith, length}
 use Rattle.std.specs.Prelude.{Err, IfSome, Ok, ◌⊎◌}
 use Rattle.conda_base.specs.Reads.{Read}
 use Rattle.conda_dev.specs.Fault.{Rose}
@@ -11,9 +11,9 @@ use Rattle.conda_history.specs.Reading.{history_read}
 use Rattle.conda_history.specs.declared.revision.Block.{Block}
 use Rattle.conda_history.specs.declared.revision.History.{History}
 use Rattle.conda_cli.specs.declared.fault.Fault.{Fault}
-use Rattle.conda_cli.specs.declared.fault.Fault.TheVariants.{NoEnv, LongHistory, BadHistory, EnvFault, HostFault, Memory}
+use Rattle.conda_cli.specs.declared.fault.Fault.TheVariants.{BadHistory, EnvFault, HostFault, Memory}
 use Rattle.conda_cli.specs.Faults.{status_of}
-use Rattle.conda_cli.specs.Answers.{Answer, AnswersWith, Devices, EndsWith, IsCause, IsFaultOf, IsGiven, IsGood, IsPut, IsQuiet, IsRefusal, IsReportAnswer, IsReportOf, IsReported, IsRevisionsOf, Reports, ReportsExactly, Told, history_in, history_limit, refusal}
+use Rattle.conda_cli.specs.Answers.{Answer, AnswersWith, Devices, IsCause, IsFaultOf, IsGiven, IsGood, IsPut, IsQuiet, IsRefusal, IsReportAnswer, IsReportOf, IsReported, IsRevisionsOf, Reports, ReportsExactly, Told, history_in, history_limit, refusal}
 use Rattle.conda_cli.specs.Runs.{Does, IsUnread, Refuses, Runs, RunsReport, RunsVerb}
 use Rattle.conda_words.specs.declared.command.Command.{Command}
 use Rattle.conda_words.specs.declared.command.Verb.{Verb}
