@@ -1,8 +1,6 @@
 ghost use Rattle.std.specs.Prelude.{◌≡◌, false};
 
-use crate::chan::{run_chans, watch_chans};
 use crate::lane::{run_in_host, run_in_lane, shares_of};
-use crate::store::run_stores;
 use conda_base::Text;
 use conda_dev::{
     Clock, DeviceErr, FixedClock, Host, In, Lane, MemHost, MemIn, MemLane, MemOut, Out, Seen, Tree,
@@ -40,25 +38,6 @@ pub fn answer<R: Wait + Sync>(
         ("host.look", [plan, tree, paths]) => {
             look_in_host(rt, alloc, plan.as_str(), tree.as_str(), paths.as_str())
         }
-        ("chan.run", [plan, files, open, calls]) => run_chans(
-            rt,
-            alloc,
-            plan.as_str(),
-            files.as_str(),
-            open.as_str(),
-            calls.as_str(),
-        ),
-        ("chan.watch", [files, path, calls]) => {
-            watch_chans(rt, alloc, files.as_str(), path.as_str(), calls.as_str())
-        }
-        ("store.run", [plan, cached, handles, calls]) => run_stores(
-            rt,
-            alloc,
-            plan.as_str(),
-            cached.as_str(),
-            handles.as_str(),
-            calls.as_str(),
-        ),
         ("output.put", [plan, texts]) => put_all(alloc, plan.as_str(), texts.as_str()),
         ("input.take", [plan, text, sizes]) => {
             take_all(alloc, plan.as_str(), text.as_str(), sizes.as_str())

@@ -4,8 +4,8 @@ ghost use Rattle.conda_dev.specs.Memory.{host_state};
 use conda_dev::{Abilities, Host, Lane, MemHost, MemLane};
 use conda_path::Prefix;
 use rows_plan::{
-    cached, effect_of, node_of, path_of, plan_of, shown_abilities, shown_node, shown_paths,
-    shown_seen, shown_tree, target_of, tree_of, word,
+    cached, node_of, path_of, plan_of, shown_abilities, shown_node, shown_paths, shown_seen,
+    shown_tree, stop_at, tree_of, word,
 };
 use std::alloc::{AllocError, Global};
 use std::sync::Wait;
@@ -239,28 +239,4 @@ pub fn run_in_host<R: Wait + Sync>(
         return Ok(Some(format!(in alloc; "no lanes, {faults} faults")?));
     };
     Ok(Some(run_all(alloc, &mut lanes[0], calls)?))
-}
-
-/// Makes a target fail from a call on, where the text is `TARGET from CALL EFFECT`.
-pub fn stop_at<R: Wait + Clone + Drop>(
-    alloc: Global,
-    host: &mut MemHost<R>,
-    text: &str,
-) -> Result<(), AllocError>
-    ensures { host_state host.new ≡ host_state host.old }
-{
-    let Some((target, at)) = text.split_once(" from ") else {
-        return Ok(());
-    };
-    let Some((call, effect)) = at.split_once(' ') else {
-        return Ok(());
-    };
-    let mut words = Vec::new(alloc);
-    for word in target.split_whitespace() {
-        words.push(word)?;
-    }
-    let (Some(target), Ok(call)) = (target_of(alloc, words.as_slice()), call.parse::<u64>()) else {
-        return Ok(());
-    };
-    host.stop_after(target, call, effect_of(effect))
 }

@@ -1,27 +1,22 @@
 //! The rows of the devices and of the machine over events.
 #![tactic(auto)]
 
-mod chan;
-mod checked;
 mod dev;
-mod held;
 mod lane;
 mod machine;
-mod store;
 
 use conda_base::Text;
 use rows_text::{Table, print_rows};
 use std::alloc::{AllocError, Global};
 use std::io;
 use std::sync::Wait;
-use std::thread::Threads;
 
 #[derive(Drop)]
 struct Devices<R> {
     rt: R,
 }
 
-impl<R: Threads + Wait + Sync> Table for Devices<R> {
+impl<R: Wait + Sync> Table for Devices<R> {
     fn answer(
         &self,
         alloc: Global,
@@ -29,12 +24,6 @@ impl<R: Threads + Wait + Sync> Table for Devices<R> {
         arguments: &[Text],
     ) -> Result<Option<String>, AllocError> {
         if let Some(answer) = machine::answer(alloc, call, arguments)? {
-            return Ok(Some(answer));
-        }
-        if let Some(answer) = held::answer(&self.rt, alloc, call, arguments)? {
-            return Ok(Some(answer));
-        }
-        if let Some(answer) = checked::answer(&self.rt, alloc, call, arguments)? {
             return Ok(Some(answer));
         }
         dev::answer(&self.rt, alloc, call, arguments)

@@ -4,15 +4,14 @@ use conda_real::RealHost;
 use rows_plan::{run_chan, run_store};
 use std::alloc::{AllocError, Global};
 use std::fs;
-use std::rt::Files;
 
 /// A folder with these things in it and a host over it.
-fn host_of<R: Files + AllocGlobal + Clone + Send + Drop>(
+fn host_of(
     alloc: Global,
-    rt: &R,
+    rt: &HostRuntime,
     top: &str,
     things: &str,
-) -> Result<Option<RealHost<R>>, AllocError> {
+) -> Result<Option<RealHost<HostRuntime>>, AllocError> {
     let _ = fs::remove_dir_all(rt, top);
     if make_things(alloc, rt, top, things).is_err() {
         return Ok(None);
@@ -22,9 +21,9 @@ fn host_of<R: Files + AllocGlobal + Clone + Send + Drop>(
 
 /// Runs calls, parted by `;`, on a handle of the channel `main` in the folder `c` of a folder with
 /// these things in it. The answers and the count of faults.
-pub fn chan_answer<R: Files + AllocGlobal + Clone + Send + Drop>(
+pub fn chan_answer(
     alloc: Global,
-    rt: &R,
+    rt: &HostRuntime,
     top: &str,
     things: &str,
     calls: &str,
@@ -44,9 +43,9 @@ pub fn chan_answer<R: Files + AllocGlobal + Clone + Send + Drop>(
 
 /// Runs calls, parted by `;`, on a handle of the cache `pkgs` in a folder with these things in it.
 /// The answers, the count of faults, and all that lies in the folder afterwards.
-pub fn store_answer<R: Files + AllocGlobal + Clone + Send + Drop>(
+pub fn store_answer(
     alloc: Global,
-    rt: &R,
+    rt: &HostRuntime,
     top: &str,
     things: &str,
     calls: &str,

@@ -97,8 +97,11 @@ fn changes(alloc: Global, bytes: &[u8]) -> Result<Option<String>, AllocError> {
     Ok(Some(text))
 }
 
-/// The moment of seconds.
+/// The moment of seconds, of at most 250,000,000,000.
 fn of(alloc: Global, seconds: u64) -> Result<Option<String>, AllocError> {
+    if seconds > 250_000_000_000 {
+        return Ok(None);
+    }
     let mut text = String::new(alloc);
     Stamp::of(seconds).push_text(&mut text)?;
     Ok(Some(text))

@@ -1,6 +1,10 @@
-use conda_dev::{Effect, FailAt, Target};
+ghost use Rattle.std.specs.Prelude.{◌≡◌};
+ghost use Rattle.conda_dev.specs.Memory.{host_state};
+
+use conda_dev::{Effect, FailAt, MemHost, Target};
 use conda_path::Prefix;
 use std::alloc::{AllocError, Global};
+use std::sync::Wait;
 
 /// The plan of failing calls that a text gives, parted by `;`: `host`, `input`, `output`, `chan
 /// NUMBER`, `store NUMBER` or `lane PREFIX NUMBER`, then `fails at CALL before` or `fails at CALL after`. What isn't of this form is
@@ -67,4 +71,28 @@ pub fn effect_of(word: &str) -> Effect {
         "before" => Effect::Before,
         _ => Effect::After,
     }
+}
+
+/// Makes a target fail from a call on, where the text is `TARGET from CALL EFFECT`.
+pub fn stop_at<R: Wait + Clone + Drop>(
+    alloc: Global,
+    host: &mut MemHost<R>,
+    text: &str,
+) -> Result<(), AllocError>
+    ensures { host_state host.new ≡ host_state host.old }
+{
+    let Some((target, at)) = text.split_once(" from ") else {
+        return Ok(());
+    };
+    let Some((call, effect)) = at.split_once(' ') else {
+        return Ok(());
+    };
+    let mut words = Vec::new(alloc);
+    for word in target.split_whitespace() {
+        words.push(word)?;
+    }
+    let (Some(target), Ok(call)) = (target_of(alloc, words.as_slice()), call.parse::<u64>()) else {
+        return Ok(());
+    };
+    host.stop_after(target, call, effect_of(effect))
 }

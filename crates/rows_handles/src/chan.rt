@@ -1,18 +1,40 @@
-use crate::lane::stop_at;
 use conda_base::{Rows, Text};
 use conda_dev::{Chan, Counted, DeviceErr, Host, MemChan, MemHost, Shown};
 use conda_path::Node;
-use rows_plan::{named_nodes, plan_of};
+use rows_plan::{named_nodes, plan_of, stop_at};
 use std::alloc::{AllocError, Global};
-use std::sync::Wait;
+
+/// The rows of handles on a channel. `chan.run PLAN|FILES|NAMES|CALLS`, `chan.watch
+/// FILES|PATH|CALLS`.
+pub fn answer(
+    rt: &HostRuntime,
+    alloc: Global,
+    call: &str,
+    arguments: &[Text],
+) -> Result<Option<String>, AllocError> {
+    match (call, arguments) {
+        ("chan.run", [plan, files, open, calls]) => run_chans(
+            rt,
+            alloc,
+            plan.as_str(),
+            files.as_str(),
+            open.as_str(),
+            calls.as_str(),
+        ),
+        ("chan.watch", [files, path, calls]) => {
+            watch_chans(rt, alloc, files.as_str(), path.as_str(), calls.as_str())
+        }
+        _ => Ok(None),
+    }
+}
 
 /// A host whose channel `main` has these files.
-pub fn host_of<R: Wait + Clone + Drop>(
-    rt: R,
+pub fn host_of<'a>(
+    rt: &'a HostRuntime,
     alloc: Global,
     plan: &str,
     files: &str,
-) -> Result<MemHost<R>, AllocError> {
+) -> Result<MemHost<&'a HostRuntime>, AllocError> {
     let mut channels: Vec<(Text, Rows<(Text, Node)>)> = Vec::new(alloc);
     let name = Text::from_str(alloc, "main")?;
     channels.push((name, named_nodes(alloc, files)?))?;
@@ -129,8 +151,8 @@ fn told_by(alloc: Global, made: &mut String, chans: &[MemChan]) -> Result<(), Al
 
 /// Opens so many handles on the channel of this name, makes calls of them, and tells of each its
 /// faults and what it was asked to read. The plan may also be a target that fails from a call on.
-pub fn run_chans<R: Wait + Clone + Send + Drop>(
-    rt: R,
+fn run_chans(
+    rt: &HostRuntime,
     alloc: Global,
     plan: &str,
     files: &str,
@@ -152,8 +174,8 @@ pub fn run_chans<R: Wait + Clone + Send + Drop>(
 }
 
 /// How many reads of one path there were, over all handles.
-pub fn watch_chans<R: Wait + Clone + Send + Drop>(
-    rt: R,
+fn watch_chans(
+    rt: &HostRuntime,
     alloc: Global,
     files: &str,
     path: &str,

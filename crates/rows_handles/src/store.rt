@@ -1,11 +1,29 @@
 use crate::chan::{shown_bytes, shown_list};
-use crate::lane::stop_at;
 use conda_base::{Rows, Text};
 use conda_dev::{Counted, Got, Host, MemHost, MemStore, Store, Touch, Touched};
 use conda_path::{Digest, Dist, Node, RelPath, SlotKey};
-use rows_plan::{node_of, path_of, plan_of, word};
+use rows_plan::{node_of, path_of, plan_of, stop_at, word};
 use std::alloc::{AllocError, Global};
-use std::sync::Wait;
+
+/// The rows of handles on the cache. `store.run PLAN|CACHED|HANDLES|CALLS`.
+pub fn answer(
+    rt: &HostRuntime,
+    alloc: Global,
+    call: &str,
+    arguments: &[Text],
+) -> Result<Option<String>, AllocError> {
+    match (call, arguments) {
+        ("store.run", [plan, cached, handles, calls]) => run_stores(
+            rt,
+            alloc,
+            plan.as_str(),
+            cached.as_str(),
+            handles.as_str(),
+            calls.as_str(),
+        ),
+        _ => Ok(None),
+    }
+}
 
 /// The key of a text `CHANNEL/SUBDIR/DIST`.
 fn key_of(alloc: Global, text: &str) -> Result<Option<SlotKey>, AllocError> {
@@ -166,10 +184,10 @@ fn run_all<S: Store>(alloc: Global, stores: &mut [S], calls: &str) -> Result<Str
 }
 
 /// The count of faults of each handle, what it was asked to change, and what it read last.
-fn told_by<R: Wait + Send + Drop>(
+fn told_by(
     alloc: Global,
     made: &mut String,
-    stores: &[MemStore<R>],
+    stores: &[MemStore<&HostRuntime>],
 ) -> Result<(), AllocError> {
     for (place, store) in stores.iter().enumerate() {
         if place > 0 {
@@ -193,8 +211,8 @@ fn told_by<R: Wait + Send + Drop>(
 /// Opens so many handles on the cache, makes calls of them, and tells of each its faults, what it
 /// was asked to change, and what it read last. The plan may also be a target that fails from a call
 /// on.
-pub fn run_stores<R: Wait + Clone + Send + Drop>(
-    rt: R,
+fn run_stores(
+    rt: &HostRuntime,
     alloc: Global,
     plan: &str,
     cached: &str,

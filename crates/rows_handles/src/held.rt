@@ -7,16 +7,14 @@ use conda_dev::{Chan, Counted, DeviceErr, Failed, Host, Lane, MemHost, MemLane};
 use conda_path::{Node, Prefix, RelPath};
 use rows_plan::{node_of, tree_of, word};
 use std::alloc::{AllocError, Global};
-use std::sync::Wait;
 use std::thread;
-use std::thread::Threads;
 
 /// The rows of calls that wait for one another. `chan.held FILES|FIRST|SECOND` reads the two paths
 /// at once, each by a handle of its own; `chan.alone FILES|FIRST|SECOND` reads the first one alone.
 /// `lane.held TREE|FIRST|SECOND` puts the two nodes at once, in two environments with this tree;
 /// `lane.alone TREE|FIRST|SECOND` puts the first one alone, and once more.
-pub fn answer<R: Threads + Wait + Sync>(
-    rt: &R,
+pub fn answer(
+    rt: &HostRuntime,
     alloc: Global,
     call: &str,
     arguments: &[Text],
@@ -41,8 +39,8 @@ pub fn answer<R: Threads + Wait + Sync>(
 type Read = Result<Option<Vec<u8>>, DeviceErr>;
 
 /// Reads a path of each of two handles, at once.
-fn read_both<R: Threads + Sync, C: Chan>(
-    rt: &R,
+fn read_both<C: Chan>(
+    rt: &HostRuntime,
     alloc: Global,
     one: &mut C,
     other: &mut C,
@@ -56,8 +54,8 @@ fn read_both<R: Threads + Sync, C: Chan>(
     )
 }
 
-fn hold_both<R: Threads + Wait + Sync>(
-    rt: &R,
+fn hold_both(
+    rt: &HostRuntime,
     alloc: Global,
     files: &str,
     first: &str,
@@ -80,8 +78,8 @@ fn hold_both<R: Threads + Wait + Sync>(
     Ok(Some(format!(in alloc; "{this} {that}, {faults} faults")?))
 }
 
-fn hold_one<R: Threads + Wait + Sync>(
-    rt: &R,
+fn hold_one(
+    rt: &HostRuntime,
     alloc: Global,
     files: &str,
     first: &str,
@@ -101,13 +99,13 @@ fn hold_one<R: Threads + Wait + Sync>(
 }
 
 /// A host with a tree at each of two prefixes, whose puts at two paths wait for one another.
-fn holding<R: Wait + Clone + Drop>(
-    rt: R,
+fn holding<'a>(
+    rt: &'a HostRuntime,
     alloc: Global,
     prefixes: (&Prefix, &Prefix),
     tree: &str,
     paths: (&RelPath, &RelPath),
-) -> Result<MemHost<R>, AllocError>
+) -> Result<MemHost<&'a HostRuntime>, AllocError>
     ensures { IfOk result (λ host. (prefix : List ℕ) → (host_state host).lent prefix ≡ false) }
 {
     let mut trees = Vec::new(alloc);
@@ -120,8 +118,8 @@ fn holding<R: Wait + Clone + Drop>(
 }
 
 /// Puts a node in each of two lanes, at once, where nothing is there.
-fn put_both<R: Threads + Sync>(
-    rt: &R,
+fn put_both(
+    rt: &HostRuntime,
     one: &mut MemLane,
     other: &mut MemLane,
     first: &(RelPath, Node),
@@ -142,8 +140,8 @@ fn put_both<R: Threads + Sync>(
     ))
 }
 
-fn hold_puts<R: Threads + Wait + Sync>(
-    rt: &R,
+fn hold_puts(
+    rt: &HostRuntime,
     alloc: Global,
     tree: &str,
     first: &str,
@@ -187,8 +185,8 @@ fn put_free(lane: &mut MemLane, node: &(RelPath, Node)) -> &'static str
     word(lane.put(&node.0, &node.1))
 }
 
-fn hold_put<R: Threads + Wait + Sync>(
-    rt: &R,
+fn hold_put(
+    rt: &HostRuntime,
     alloc: Global,
     tree: &str,
     first: &str,
