@@ -3,11 +3,12 @@ use conda_dev::{Chan, Counted, DeviceErr, Host, MemChan, MemHost, Shown};
 use conda_path::Node;
 use rows_plan::{named_nodes, plan_of, stop_at};
 use std::alloc::{AllocError, Global};
+use std::sync::Wait;
 
 /// The rows of handles on a channel. `chan.run PLAN|FILES|NAMES|CALLS`, `chan.watch
 /// FILES|PATH|CALLS`.
-pub fn answer(
-    rt: &HostRuntime,
+pub fn answer<R: Wait + Sync>(
+    rt: &R,
     alloc: Global,
     call: &str,
     arguments: &[Text],
@@ -29,12 +30,12 @@ pub fn answer(
 }
 
 /// A host whose channel `main` has these files.
-pub fn host_of<'a>(
-    rt: &'a HostRuntime,
+pub fn host_of<R: Wait + Clone + Drop>(
+    rt: R,
     alloc: Global,
     plan: &str,
     files: &str,
-) -> Result<MemHost<&'a HostRuntime>, AllocError> {
+) -> Result<MemHost<R>, AllocError> {
     let mut channels: Vec<(Text, Rows<(Text, Node)>)> = Vec::new(alloc);
     let name = Text::from_str(alloc, "main")?;
     channels.push((name, named_nodes(alloc, files)?))?;
@@ -151,8 +152,8 @@ fn told_by(alloc: Global, made: &mut String, chans: &[MemChan]) -> Result<(), Al
 
 /// Opens so many handles on the channel of this name, makes calls of them, and tells of each its
 /// faults and what it was asked to read. The plan may also be a target that fails from a call on.
-fn run_chans(
-    rt: &HostRuntime,
+fn run_chans<R: Wait + Clone + Send + Drop>(
+    rt: R,
     alloc: Global,
     plan: &str,
     files: &str,
@@ -174,8 +175,8 @@ fn run_chans(
 }
 
 /// How many reads of one path there were, over all handles.
-fn watch_chans(
-    rt: &HostRuntime,
+fn watch_chans<R: Wait + Clone + Send + Drop>(
+    rt: R,
     alloc: Global,
     files: &str,
     path: &str,

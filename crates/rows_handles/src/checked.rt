@@ -6,13 +6,14 @@ use conda_path::{Digest, Node, RelPath, SlotKey};
 use hex::FromHex;
 use rows_plan::{first_word, key_of, node_of, plan_of, shown_bytes, shown_look};
 use std::alloc::{AllocError, Global};
+use std::sync::Wait;
 
 /// The rows of conda_checked. The first argument is a plan of failing calls, the second the nodes
 /// `PATH KIND TEXT` of the channel `main` or of the package `main/noarch/a-1.0-0` in the cache, the
 /// third calls of the handles 0 and 1, all parted by `;`: `HANDLE need PATH MAX`, `HANDLE maybe PATH
 /// MAX`, `HANDLE shown PATH`, `HANDLE good PATH SIZE DIGEST`.
-pub fn answer(
-    rt: &HostRuntime,
+pub fn answer<R: Wait + Sync>(
+    rt: &R,
     alloc: Global,
     call: &str,
     arguments: &[Text],
@@ -39,8 +40,8 @@ fn nodes_of(alloc: Global, text: &str) -> Result<Vec<(RelPath, Node)>, AllocErro
     Ok(nodes)
 }
 
-fn over_channel(
-    rt: &HostRuntime,
+fn over_channel<R: Wait + Sync>(
+    rt: &R,
     alloc: Global,
     plan: &str,
     files: &str,
@@ -93,8 +94,8 @@ fn call_chan<C: Chan>(
     }
 }
 
-fn over_cache(
-    rt: &HostRuntime,
+fn over_cache<R: Wait + Sync>(
+    rt: &R,
     alloc: Global,
     plan: &str,
     files: &str,

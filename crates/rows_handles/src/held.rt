@@ -7,14 +7,16 @@ use conda_dev::{Chan, Counted, DeviceErr, Failed, Host, Lane, MemHost, MemLane};
 use conda_path::{Node, Prefix, RelPath};
 use rows_plan::{node_of, tree_of, word};
 use std::alloc::{AllocError, Global};
+use std::sync::Wait;
 use std::thread;
+use std::thread::Threads;
 
 /// The rows of calls that wait for one another. `chan.held FILES|FIRST|SECOND` reads the two paths
 /// at once, each by a handle of its own; `chan.alone FILES|FIRST|SECOND` reads the first one alone.
 /// `lane.held TREE|FIRST|SECOND` puts the two nodes at once, in two environments with this tree;
 /// `lane.alone TREE|FIRST|SECOND` puts the first one alone, and once more.
-pub fn answer(
-    rt: &HostRuntime,
+pub fn answer<R: Threads + Wait + Sync>(
+    rt: &R,
     alloc: Global,
     call: &str,
     arguments: &[Text],
@@ -39,8 +41,8 @@ pub fn answer(
 type Read = Result<Option<Vec<u8>>, DeviceErr>;
 
 /// Reads a path of each of two handles, at once.
-fn read_both<C: Chan>(
-    rt: &HostRuntime,
+fn read_both<R: Threads + Sync, C: Chan>(
+    rt: &R,
     alloc: Global,
     one: &mut C,
     other: &mut C,
@@ -54,8 +56,8 @@ fn read_both<C: Chan>(
     )
 }
 
-fn hold_both(
-    rt: &HostRuntime,
+fn hold_both<R: Threads + Wait + Sync>(
+    rt: &R,
     alloc: Global,
     files: &str,
     first: &str,
@@ -78,8 +80,8 @@ fn hold_both(
     Ok(Some(format!(in alloc; "{this} {that}, {faults} faults")?))
 }
 
-fn hold_one(
-    rt: &HostRuntime,
+fn hold_one<R: Threads + Wait + Sync>(
+    rt: &R,
     alloc: Global,
     files: &str,
     first: &str,
@@ -99,13 +101,13 @@ fn hold_one(
 }
 
 /// A host with a tree at each of two prefixes, whose puts at two paths wait for one another.
-fn holding<'a>(
-    rt: &'a HostRuntime,
+fn holding<R: Wait + Clone + Drop>(
+    rt: R,
     alloc: Global,
     prefixes: (&Prefix, &Prefix),
     tree: &str,
     paths: (&RelPath, &RelPath),
-) -> Result<MemHost<&'a HostRuntime>, AllocError>
+) -> Result<MemHost<R>, AllocError>
     ensures { IfOk result (λ host. (prefix : List ℕ) → (host_state host).lent prefix ≡ false) }
 {
     let mut trees = Vec::new(alloc);
@@ -118,8 +120,8 @@ fn holding<'a>(
 }
 
 /// Puts a node in each of two lanes, at once, where nothing is there.
-fn put_both(
-    rt: &HostRuntime,
+fn put_both<R: Threads + Sync>(
+    rt: &R,
     one: &mut MemLane,
     other: &mut MemLane,
     first: &(RelPath, Node),
@@ -140,8 +142,8 @@ fn put_both(
     ))
 }
 
-fn hold_puts(
-    rt: &HostRuntime,
+fn hold_puts<R: Threads + Wait + Sync>(
+    rt: &R,
     alloc: Global,
     tree: &str,
     first: &str,
@@ -185,8 +187,8 @@ fn put_free(lane: &mut MemLane, node: &(RelPath, Node)) -> &'static str
     word(lane.put(&node.0, &node.1))
 }
 
-fn hold_put(
-    rt: &HostRuntime,
+fn hold_put<R: Threads + Wait + Sync>(
+    rt: &R,
     alloc: Global,
     tree: &str,
     first: &str,

@@ -10,13 +10,15 @@ use conda_base::Text;
 use rows_text::{Table, print_rows};
 use std::alloc::{AllocError, Global};
 use std::io;
+use std::sync::Wait;
+use std::thread::Threads;
 
 #[derive(Drop)]
-struct Handles {
-    rt: HostRuntime,
+struct Handles<R> {
+    rt: R,
 }
 
-impl Table for Handles {
+impl<R: Threads + Wait + Sync> Table for Handles<R> {
     fn answer(
         &self,
         alloc: Global,

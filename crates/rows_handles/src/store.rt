@@ -4,10 +4,11 @@ use conda_dev::{Counted, Got, Host, MemHost, MemStore, Store, Touch, Touched};
 use conda_path::{Digest, Dist, Node, RelPath, SlotKey};
 use rows_plan::{node_of, path_of, plan_of, stop_at, word};
 use std::alloc::{AllocError, Global};
+use std::sync::Wait;
 
 /// The rows of handles on the cache. `store.run PLAN|CACHED|HANDLES|CALLS`.
-pub fn answer(
-    rt: &HostRuntime,
+pub fn answer<R: Wait + Sync>(
+    rt: &R,
     alloc: Global,
     call: &str,
     arguments: &[Text],
@@ -184,10 +185,10 @@ fn run_all<S: Store>(alloc: Global, stores: &mut [S], calls: &str) -> Result<Str
 }
 
 /// The count of faults of each handle, what it was asked to change, and what it read last.
-fn told_by(
+fn told_by<R: Wait + Send + Drop>(
     alloc: Global,
     made: &mut String,
-    stores: &[MemStore<&HostRuntime>],
+    stores: &[MemStore<R>],
 ) -> Result<(), AllocError> {
     for (place, store) in stores.iter().enumerate() {
         if place > 0 {
@@ -211,8 +212,8 @@ fn told_by(
 /// Opens so many handles on the cache, makes calls of them, and tells of each its faults, what it
 /// was asked to change, and what it read last. The plan may also be a target that fails from a call
 /// on.
-fn run_stores(
-    rt: &HostRuntime,
+fn run_stores<R: Wait + Clone + Send + Drop>(
+    rt: R,
     alloc: Global,
     plan: &str,
     cached: &str,
