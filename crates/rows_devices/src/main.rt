@@ -1,4 +1,4 @@
-//! The rows of the devices and of the machine over events.
+//! The rows of the devices in memory and of the machine over events.
 #![tactic(auto)]
 
 mod dev;
@@ -6,31 +6,26 @@ mod lane;
 mod machine;
 
 use conda_base::Text;
-use rows_text::{Table, print_rows};
+use rows_waiting::print_answers;
 use std::alloc::{AllocError, Global};
 use std::io;
 use std::sync::Wait;
 
-#[derive(Drop)]
-struct Devices<R> {
-    rt: R,
-}
-
-impl<R: Wait + Sync> Table for Devices<R> {
-    fn answer(
-        &self,
-        alloc: Global,
-        call: &str,
-        arguments: &[Text],
-    ) -> Result<Option<String>, AllocError> {
-        if let Some(answer) = machine::answer(alloc, call, arguments)? {
-            return Ok(Some(answer));
-        }
-        dev::answer(&self.rt, alloc, call, arguments)
+fn answer<R: Wait + Sync>(
+    rt: &R,
+    alloc: Global,
+    call: &str,
+    arguments: &[Text],
+) -> Result<Option<String>, AllocError> {
+    if let Some(answer) = machine::answer(alloc, call, arguments)? {
+        return Ok(Some(answer));
     }
+    dev::answer(rt, alloc, call, arguments)
 }
 
 fn main(rt: HostRuntime) -> io::Result<()> {
-    let devices = Devices { rt: rt.clone()? };
-    print_rows(&rt, &devices)
+    print_answers(
+        &rt,
+        &|alloc, call, arguments| answer(&rt, alloc, call, arguments),
+    )
 }

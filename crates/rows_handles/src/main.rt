@@ -7,38 +7,30 @@ mod held;
 mod store;
 
 use conda_base::Text;
-use rows_text::{Table, print_rows};
+use rows_waiting::print_answers;
 use std::alloc::{AllocError, Global};
 use std::io;
 use std::sync::Wait;
 use std::thread::Threads;
 
-#[derive(Drop)]
-struct Handles<R> {
-    rt: R,
-}
-
-impl<R: Threads + Wait + Sync> Table for Handles<R> {
-    fn answer(
-        &self,
-        alloc: Global,
-        call: &str,
-        arguments: &[Text],
-    ) -> Result<Option<String>, AllocError> {
-        if let Some(answer) = held::answer(&self.rt, alloc, call, arguments)? {
-            return Ok(Some(answer));
-        }
-        if let Some(answer) = checked::answer(&self.rt, alloc, call, arguments)? {
-            return Ok(Some(answer));
-        }
-        if let Some(answer) = chan::answer(&self.rt, alloc, call, arguments)? {
-            return Ok(Some(answer));
-        }
-        store::answer(&self.rt, alloc, call, arguments)
+fn answer<R: Threads + Wait + Sync>(
+    rt: &R,
+    alloc: Global,
+    call: &str,
+    arguments: &[Text],
+) -> Result<Option<String>, AllocError> {
+    if let Some(answer) = held::answer(rt, alloc, call, arguments)? {
+        return Ok(Some(answer));
     }
+    if let Some(answer) = checked::answer(rt, alloc, call, arguments)? {
+        return Ok(Some(answer));
+    }
+    if let Some(answer) = chan::answer(rt, alloc, call, arguments)? {
+        return Ok(Some(answer));
+    }
+    store::answer(rt, alloc, call, arguments)
 }
 
 fn main(rt: HostRuntime) -> io::Result<()> {
-    let handles = Handles { rt: rt.clone()? };
-    print_rows(&rt, &handles)
+    print_answers(&rt, &|alloc, call, arguments| answer(&rt, alloc, call, arguments))
 }

@@ -3,30 +3,10 @@
 
 mod cli;
 
-use conda_base::Text;
-use rows_text::{Table, print_rows};
-use std::alloc::{AllocError, Global};
+use crate::cli::answer;
+use rows_waiting::print_answers;
 use std::io;
-use std::sync::Wait;
-use std::thread::Threads;
-
-#[derive(Drop)]
-struct Program<R> {
-    rt: R,
-}
-
-impl<R: Threads + Wait + Sync> Table for Program<R> {
-    fn answer(
-        &self,
-        alloc: Global,
-        call: &str,
-        arguments: &[Text],
-    ) -> Result<Option<String>, AllocError> {
-        cli::answer(&self.rt, alloc, call, arguments)
-    }
-}
 
 fn main(rt: HostRuntime) -> io::Result<()> {
-    let program = Program { rt: rt.clone()? };
-    print_rows(&rt, &program)
+    print_answers(&rt, &|alloc, call, arguments| answer(&rt, alloc, call, arguments))
 }
