@@ -1,6 +1,7 @@
 //! The rows of the crates of an environment's files.
 #![tactic(auto)]
 
+mod changes;
 mod goods;
 
 use conda_base::Text;
@@ -17,6 +18,9 @@ impl Table for Environments {
         call: &str,
         arguments: &[Text],
     ) -> Result<Option<String>, AllocError> {
+        if let Some(answer) = changes::answer(alloc, call, arguments)? {
+            return Ok(Some(answer));
+        }
         goods::answer(alloc, call, arguments)
     }
 }

@@ -1,0 +1,18 @@
+use Rattle.std.proofs.Common.{◌≡◌, ◌%◌, ℕ, List, [], ◌∷◌, ap, sym, ◌∙◌, arith}
+use Rattle.std.specs.List.{AllByRecursion}
+use Rattle.conda_path.specs.Lanes.{lane_number}
+use Rattle.conda_device.specs.Lanes.{IsInShare, Share}
+use Rattle.conda_lane.specs.Changes.{names}
+use Rattle.rows_environments.proofs.changes.one_lane.Goals as goal
+
+rest_of_one : (x : ℕ) → x % 1 ≡ 0
+rest_of_one x = omega arith
+
+-- every path lies in the only share
+inside_one : (share : Share) → share.number ≡ 0 → share.lanes ≡ 1 → (paths : List (List ℕ)) → AllByRecursion (IsInShare share) paths
+inside_one share number lanes [] = tt
+inside_one share number lanes (path ∷ paths) =
+    (ap (lane_number path) lanes ∙ rest_of_one _ ∙ sym number, inside_one share number lanes paths)
+
+pub returns : goal.returns
+returns c = record { apart = c.requires.apart; inside = inside_one _ c.requires.number c.requires.lanes (names c.args.changes.now) }
