@@ -1,126 +1,33 @@
-ghost use Rattle.std.specs.Prelude.{◌≡◌, IfOk, IfSome, false, true};
-ghost use Rattle.std.specs.List.{AllByRecursion};
-ghost use Rattle.std.specs.Str.{bytes_eq};
-ghost use Rattle.conda_lane.specs.Changes.{AreApart, AreChanges, IsStart, names};
+ghost use Rattle.std.specs.Prelude.{◌≡◌, IfOk};
+ghost use Rattle.conda_lane.specs.Changes.{AreApart};
 
+use crate::checks::{are_goods_of, are_moved_out, are_ready, can_move_back, one_lane};
+use crate::edits::{changes_of, shelf_of};
+use crate::shelf::{Counts, Shelf};
 use conda_base::Text;
-use conda_dev::{Effect, FailAt, Lane, MemLane, Target, Tree};
-use conda_lane::{Change, move_out, purge, undo, undo_puts};
-use conda_path::{Digest, Good, Kind, Prefix, RelPath};
-use rows_plan::{node_of, plan_of, shown_tree, tree_of, word};
+use conda_dev::{Effect, FailAt, Lane, MemLane, Target};
+use conda_lane::{Cause, Change, Stopped, move_out, purge, put_in, undo, undo_moves, undo_puts};
+use conda_path::Prefix;
+use rows_plan::{plan_of, shown_tree, tree_of, word};
 use std::alloc::{AllocError, Global};
 
-/// The rows of conda_lane. A change is `PATH new TRASH`, `PATH replaced TRASH` or `PATH removed
-/// TRASH`. Calls are `out`, `put PATH KIND TEXT` (the lane's own), `puts`, `undo` and `purge`.
-/// Changes, calls and the nodes of a tree are parted by `;`.
+/// The rows of conda_lane. A change is `PATH new TRASH KIND TEXT`, `PATH replaced TRASH KIND TEXT` or
+/// `PATH removed TRASH`. Calls are `out`, `in`, `puts`, `moves`, `undo` and `purge`. What a supply
+/// does otherwise than to give each new node is `PATH WORD`. Changes, calls, the nodes of a tree and
+/// what a supply does are parted by `;`.
 pub fn answer(alloc: Global, call: &str, arguments: &[Text]) -> Result<Option<String>, AllocError> {
     match (call, arguments) {
-        ("changes", [plan, tree, changes, calls]) => run(
-            alloc,
-            plan.as_str(),
-            tree.as_str(),
-            changes.as_str(),
-            calls.as_str(),
-        ),
-        ("changes.walk", [tree, changes, puts]) => {
-            walk(alloc, tree.as_str(), changes.as_str(), puts.as_str())
+        ("changes", [plan, tree, changes, calls]) => {
+            let (plan, tree, calls) = (plan.as_str(), tree.as_str(), calls.as_str());
+            run(alloc, plan, tree, changes.as_str(), calls)
         }
+        ("changes.supply", [supply, tree, changes, calls]) => {
+            let (supply, tree, calls) = (supply.as_str(), tree.as_str(), calls.as_str());
+            run_supplied(alloc, supply, tree, changes.as_str(), calls)
+        }
+        ("changes.walk", [tree, changes]) => walk(alloc, tree.as_str(), changes.as_str()),
         _ => Ok(None),
     }
-}
-
-/// Whether no change names the path.
-fn is_free(path: &RelPath, changes: &[Change]) -> bool
-    ensures { result ≡ true →
-        AllByRecursion (λ name. bytes_eq path.now name ≡ false) (names changes.now) }
-{
-    match changes {
-        [] => true,
-        [first, rest @ ..] => { *path != first.path && *path != first.trash && is_free(path, rest) }
-    }
-}
-
-/// Whether no path is named twice.
-fn are_apart(changes: &[Change]) -> bool
-    ensures { result ≡ true → AreApart changes.now }
-{
-    match changes {
-        [] => true,
-        [first, rest @ ..] => {
-            first.path != first.trash
-                && is_free(&first.path, rest)
-                && is_free(&first.trash, rest)
-                && are_apart(rest)
-        }
-    }
-}
-
-/// Whether the changes may start in the tree.
-fn are_ready(tree: &Tree, changes: &[Change]) -> bool
-    ensures { result ≡ true → IsStart tree.now changes.now }
-{
-    match changes {
-        [] => true,
-        [first, rest @ ..] => {
-            tree.contains(&first.path) == first.old
-                && !tree.contains(&first.trash)
-                && are_ready(tree, rest)
-        }
-    }
-}
-
-/// Changes that are apart lie in the only lane.
-fn one_lane(lane: &MemLane, changes: &[Change])
-    requires number { lane.now.number ≡ 0 }
-    requires lanes { lane.now.lanes ≡ 1 }
-    requires apart { AreApart changes.now }
-    ensures { AreChanges (⟦<MemLane as Lane>⟧.share lane.now) changes.now }
-{}
-
-/// The change of a text.
-fn change_of(alloc: Global, text: &str) -> Result<Option<Change>, AllocError> {
-    let Some((path, rest)) = text.split_once(' ') else {
-        return Ok(None);
-    };
-    let Some((kind, trash)) = rest.split_once(' ') else {
-        return Ok(None);
-    };
-    let (Ok(path), Ok(trash)) = (RelPath::read(alloc, path), RelPath::read(alloc, trash)) else {
-        return Ok(None);
-    };
-    let new = match kind {
-        "removed" => None,
-        _ => Some(Good {
-            path: path.clone()?,
-            kind: Kind::File,
-            size: 0,
-            digest: Digest { bytes: [0; 32] },
-        }),
-    };
-    let old = kind != "new";
-    Ok(Some(Change {
-        path,
-        old,
-        new,
-        trash,
-    }))
-}
-
-/// The changes of a text; None where one isn't of the form, or a path is named twice.
-fn changes_of(alloc: Global, texts: &str) -> Result<Option<Vec<Change>>, AllocError>
-    ensures { IfOk result (λ found. IfSome found (λ changes. AreApart changes.items)) }
-{
-    let mut changes = Vec::new(alloc);
-    for text in texts.split(';') {
-        match change_of(alloc, text.trim())? {
-            Some(change) => changes.push(change)?,
-            None => return Ok(None),
-        }
-    }
-    if !are_apart(changes.as_slice()) {
-        return Ok(None);
-    }
-    Ok(Some(changes))
 }
 
 fn lane_of(alloc: Global, tree: &str, plan: Vec<FailAt>) -> Result<MemLane, AllocError>
@@ -145,23 +52,22 @@ fn out(lane: &mut MemLane, changes: &[Change]) -> &'static str
     word(move_out(lane, changes))
 }
 
-/// A put of the lane's own, which asks for a path where nothing is.
-fn put(alloc: Global, lane: &mut MemLane, text: &str) -> Result<&'static str, AllocError>
-    requires number { lane.old.number ≡ 0 }
-    requires lanes { lane.old.lanes ≡ 1 }
-    ensures number { lane.new.number ≡ 0 }
-    ensures lanes { lane.new.lanes ≡ 1 }
-{
-    let Some((path, node)) = node_of(alloc, text)? else {
-        return Ok("?");
-    };
-    if lane.tree().contains(&path) {
-        return Ok("there");
+fn cause_word(done: Result<(), Stopped>) -> &'static str {
+    match done {
+        Ok(()) => "ok",
+        Err(stopped) => match stopped.cause {
+            Cause::LaneFault => "lane",
+            Cause::ChanFault => "channel",
+            Cause::StoreFault => "cache",
+            Cause::Missing => "missing",
+            Cause::Damaged => "damaged",
+            Cause::Memory => "memory",
+        },
     }
-    Ok(word(lane.put(&path, &node)))
 }
 
-fn undone(lane: &mut MemLane, changes: &[Change]) -> &'static str
+/// Puts the new nodes, which asks for a tree from which all old ones are moved.
+fn into(alloc: Global, lane: &mut MemLane, changes: &[Change], shelf: &mut Shelf) -> &'static str
     requires number { lane.old.number ≡ 0 }
     requires lanes { lane.old.lanes ≡ 1 }
     requires apart { AreApart changes.now }
@@ -169,7 +75,10 @@ fn undone(lane: &mut MemLane, changes: &[Change]) -> &'static str
     ensures lanes { lane.new.lanes ≡ 1 }
 {
     one_lane(lane, changes);
-    word(undo(lane, changes))
+    if !are_moved_out(lane.tree(), changes) || !are_goods_of(shelf.goods(), changes) {
+        return "not moved out";
+    }
+    cause_word(put_in(alloc, lane, changes, shelf))
 }
 
 fn cleared(lane: &mut MemLane, changes: &[Change]) -> &'static str
@@ -181,6 +90,32 @@ fn cleared(lane: &mut MemLane, changes: &[Change]) -> &'static str
 {
     one_lane(lane, changes);
     word(undo_puts(lane, changes))
+}
+
+/// Moves the old nodes back, which asks that no change has two nodes.
+fn moved_back(lane: &mut MemLane, changes: &[Change]) -> &'static str
+    requires number { lane.old.number ≡ 0 }
+    requires lanes { lane.old.lanes ≡ 1 }
+    requires apart { AreApart changes.now }
+    ensures number { lane.new.number ≡ 0 }
+    ensures lanes { lane.new.lanes ≡ 1 }
+{
+    one_lane(lane, changes);
+    if !can_move_back(lane.tree(), changes) {
+        return "not cleared";
+    }
+    word(undo_moves(lane, changes))
+}
+
+fn undone(lane: &mut MemLane, changes: &[Change]) -> &'static str
+    requires number { lane.old.number ≡ 0 }
+    requires lanes { lane.old.lanes ≡ 1 }
+    requires apart { AreApart changes.now }
+    ensures number { lane.new.number ≡ 0 }
+    ensures lanes { lane.new.lanes ≡ 1 }
+{
+    one_lane(lane, changes);
+    word(undo(lane, changes))
 }
 
 /// Erases the trash. The numbers of the changes that are left.
@@ -207,6 +142,7 @@ fn called(
     alloc: Global,
     lane: &mut MemLane,
     changes: &[Change],
+    shelf: &mut Shelf,
     call: &str,
 ) -> Result<String, AllocError>
     requires number { lane.old.number ≡ 0 }
@@ -215,34 +151,33 @@ fn called(
     ensures number { lane.new.number ≡ 0 }
     ensures lanes { lane.new.lanes ≡ 1 }
 {
-    let answer = match call.split_once(' ') {
-        Some(("put", text)) => put(alloc, lane, text)?,
-        _ => match call {
-            "out" => out(lane, changes),
-            "puts" => cleared(lane, changes),
-            "undo" => undone(lane, changes),
-            "purge" => return purged(alloc, lane, changes),
-            _ => "?",
-        },
+    let answer = match call {
+        "out" => out(lane, changes),
+        "in" => into(alloc, lane, changes, shelf),
+        "puts" => cleared(lane, changes),
+        "moves" => moved_back(lane, changes),
+        "undo" => undone(lane, changes),
+        "purge" => return purged(alloc, lane, changes),
+        _ => "?",
     };
     String::from_str(alloc, answer)
 }
 
 /// Makes the calls of a text. The answers, the count of faults and the tree that is left.
-fn run(
+fn run_all(
     alloc: Global,
-    plan: &str,
-    tree: &str,
-    changes: &str,
+    lane: &mut MemLane,
+    changes: &[Change],
+    shelf: &mut Shelf,
     calls: &str,
-) -> Result<Option<String>, AllocError> {
-    let Some(changes) = changes_of(alloc, changes)? else {
-        return Ok(None);
-    };
-    let mut lane = lane_of(alloc, tree, plan_of(alloc, plan)?)?;
+) -> Result<String, AllocError>
+    requires number { lane.old.number ≡ 0 }
+    requires lanes { lane.old.lanes ≡ 1 }
+    requires apart { AreApart changes.now }
+{
     let mut made = String::new(alloc);
     for call in calls.split(';') {
-        let answer = called(alloc, &mut lane, changes.as_slice(), call.trim())?;
+        let answer = called(alloc, lane, changes, shelf, call.trim())?;
         made.push_str(answer.as_str())?;
         made.push_str("; ")?;
     }
@@ -250,44 +185,88 @@ fn run(
     let tree = shown_tree(alloc, lane.tree())?;
     let made = made.as_str();
     let tree = tree.as_str();
-    Ok(Some(format!(in alloc; "{made}{faults} faults; {tree}")?))
+    format!(in alloc; "{made}{faults} faults; {tree}")
 }
 
-/// Moves out and puts, up to the first call that fails.
-fn edited(
+fn run(
     alloc: Global,
-    lane: &mut MemLane,
-    changes: &[Change],
-    puts: &str,
-) -> Result<(), AllocError>
+    plan: &str,
+    tree: &str,
+    texts: &str,
+    calls: &str,
+) -> Result<Option<String>, AllocError> {
+    let (Some(changes), Some(mut shelf)) = (changes_of(alloc, texts)?, shelf_of(alloc, texts, "")?)
+    else {
+        return Ok(None);
+    };
+    let mut lane = lane_of(alloc, tree, plan_of(alloc, plan)?)?;
+    let made = run_all(alloc, &mut lane, changes.as_slice(), &mut shelf, calls)?;
+    Ok(Some(made))
+}
+
+/// The same over a supply that does what a text says, and then what the supply counted.
+fn run_supplied(
+    alloc: Global,
+    supply: &str,
+    tree: &str,
+    texts: &str,
+    calls: &str,
+) -> Result<Option<String>, AllocError> {
+    let (Some(changes), Some(mut shelf)) =
+        (changes_of(alloc, texts)?, shelf_of(alloc, texts, supply)?)
+    else {
+        return Ok(None);
+    };
+    let mut lane = lane_of(alloc, tree, Vec::new(alloc))?;
+    let mut made = run_all(alloc, &mut lane, changes.as_slice(), &mut shelf, calls)?;
+    let counts = shelf.counts();
+    made.push_str(counted(alloc, &counts)?.as_str())?;
+    Ok(Some(made))
+}
+
+fn counted(alloc: Global, counts: &Counts) -> Result<String, AllocError> {
+    let (channel, cache) = (counts.channel, counts.cache);
+    let (absent, other) = (counts.absent, counts.other);
+    format!(in alloc; "; {channel} channel {cache} cache {absent} absent {other} other")
+}
+
+/// Moves out and puts in, up to the first call that fails.
+fn edited(alloc: Global, lane: &mut MemLane, changes: &[Change], shelf: &mut Shelf)
     requires number { lane.old.number ≡ 0 }
     requires lanes { lane.old.lanes ≡ 1 }
     requires apart { AreApart changes.now }
-    ensures number { IfOk result (λ _. lane.new.number ≡ 0) }
-    ensures lanes { IfOk result (λ _. lane.new.lanes ≡ 1) }
+    ensures number { lane.new.number ≡ 0 }
+    ensures lanes { lane.new.lanes ≡ 1 }
 {
-    if out(lane, changes) != "ok" {
-        return Ok(());
+    if out(lane, changes) == "ok" {
+        into(alloc, lane, changes, shelf);
     }
-    for text in puts.split(';') {
-        if put(alloc, lane, text.trim())? != "ok" {
-            return Ok(());
-        }
-    }
-    Ok(())
 }
 
-/// What a run comes to in which a call of the lane fails: nothing where no call did.
+/// Undoes twice, and once more where the second time failed.
+fn undone_twice(lane: &mut MemLane, changes: &[Change])
+    requires number { lane.old.number ≡ 0 }
+    requires lanes { lane.old.lanes ≡ 1 }
+    requires apart { AreApart changes.now }
+{
+    undone(lane, changes);
+    if undone(lane, changes) != "ok" {
+        undone(lane, changes);
+    }
+}
+
+/// Whether a run in which one call of the lane fails ends at its start; None where no call did.
 fn failed_run(
     alloc: Global,
     tree: &str,
-    changes: &[Change],
-    puts: &str,
+    texts: &str,
     call: u64,
     effect: Effect,
-) -> Result<Option<bool>, AllocError>
-    requires { AreApart changes.now }
-{
+) -> Result<Option<bool>, AllocError> {
+    let (Some(changes), Some(mut shelf)) = (changes_of(alloc, texts)?, shelf_of(alloc, texts, "")?)
+    else {
+        return Ok(None);
+    };
     let Ok(prefix) = Prefix::read(alloc, "/e") else {
         return Ok(None);
     };
@@ -296,10 +275,8 @@ fn failed_run(
     plan.push(FailAt { on, call, effect })?;
     let mut lane = lane_of(alloc, tree, plan)?;
     let start = shown_tree(alloc, lane.tree())?;
-    edited(alloc, &mut lane, changes, puts)?;
-    if undone(&mut lane, changes) != "ok" {
-        undone(&mut lane, changes);
-    }
+    edited(alloc, &mut lane, changes.as_slice(), &mut shelf);
+    undone_twice(&mut lane, changes.as_slice());
     if lane.faults() == 0 {
         return Ok(None);
     }
@@ -308,30 +285,20 @@ fn failed_run(
 }
 
 /// Lets each call of a run fail in turn, before and after its effect, where a run moves out, puts
-/// the nodes of a text, undoes, and undoes again where that failed. How many calls there are, and
-/// how many of the runs end at the start.
-fn walk(alloc: Global, tree: &str, texts: &str, puts: &str) -> Result<Option<String>, AllocError> {
-    let Some(changes) = changes_of(alloc, texts)? else {
-        return Ok(None);
-    };
+/// in and undoes twice. How many calls there are, and how many of the runs end at the start.
+fn walk(alloc: Global, tree: &str, texts: &str) -> Result<Option<String>, AllocError> {
     let mut calls = 0;
-    let mut runs = 0;
-    let mut good = 0;
-    for call in 1..100u64 {
+    let mut runs = 0_u64;
+    let mut good = 0_u64;
+    for call in 1..100_u64 {
         for effect in [Effect::Before, Effect::After] {
-            if let Some(is_start) = failed_run(
-                alloc,
-                tree,
-                changes.as_slice(),
-                puts,
-                call,
-                effect,
-            )? {
-                calls = call;
-                runs += 1;
-                if is_start {
-                    good += 1;
-                }
+            let Some(is_start) = failed_run(alloc, tree, texts, call, effect)? else {
+                continue;
+            };
+            calls = call;
+            runs = runs.saturating_add(1);
+            if is_start {
+                good = good.saturating_add(1);
             }
         }
     }

@@ -2,7 +2,10 @@
 #![tactic(auto)]
 
 mod changes;
+mod checks;
+mod edits;
 mod goods;
+mod shelf;
 
 use conda_base::Text;
 use rows_text::{Table, print_rows};

@@ -3,7 +3,7 @@ use Rattle.std.specs.List.{AllByRecursion}
 use Rattle.conda_path.specs.Lanes.{lane_number}
 use Rattle.conda_device.specs.Lanes.{IsInShare, Share}
 use Rattle.conda_lane.specs.Changes.{names}
-use Rattle.rows_environments.proofs.changes.one_lane.Goals as goal
+use Rattle.rows_environments.proofs.checks.one_lane.Goals as goal
 
 rest_of_one : (x : ℕ) → x % 1 ≡ 0
 rest_of_one x = omega arith
