@@ -1,7 +1,9 @@
 -- What contracts see of a shelf: one handle on a channel, by which it may read a file of each of its goods, and one on the cache.
-use Rattle.std.specs.Prelude.{List, [], ◌∷◌, map, None}
+use Rattle.std.specs.Prelude.{ℕ, List, [], ◌∷◌, map, None}
 use Rattle.conda_path.specs.declared.values.Good.{Good}
+use Rattle.conda_device.specs.Tree.{Tree}
 use Rattle.conda_checked.specs.Lacks.{no_lacks}
+use Rattle.conda_checked.specs.declared.lack.Lacks.{Lacks}
 use Rattle.conda_lane.specs.Supplies.{ChanFile, SupplyState}
 use Rattle.rows_environments.specs.declared.shelf.Shelf.{Shelf}
 
@@ -9,12 +11,16 @@ use Rattle.rows_environments.specs.declared.shelf.Shelf.{Shelf}
 abbrev pub file_of : Good → ChanFile
 file_of good = record { handle = 0; path = good.path; size = good.size; digest = good.digest }
 
-abbrev pub state_of : Shelf → SupplyState
-state_of shelf = record {
-  goods = shelf.goods.items;
-  kept = shelf.kept;
-  chans = record { name = []; files = None; asked = None; faults = shelf.channel.count; lacks = shelf.lacks } ∷ [];
-  stores = record { told = None; faults = shelf.cache.count; lacks = no_lacks } ∷ [];
-  chan_files = map file_of shelf.goods.items;
+-- with these goods and kept nodes, the faults of both handles, and the lacks of the first
+abbrev pub supply_of : List Good → Tree → ℕ → ℕ → Lacks → SupplyState
+supply_of goods kept channel cache lacks = record {
+  goods = goods;
+  kept = kept;
+  chans = record { name = []; files = None; asked = None; faults = channel; lacks = lacks } ∷ [];
+  stores = record { told = None; faults = cache; lacks = no_lacks } ∷ [];
+  chan_files = map file_of goods;
   store_files = [];
 }
+
+abbrev pub state_of : Shelf → SupplyState
+state_of shelf = supply_of shelf.goods.items shelf.kept shelf.channel.count shelf.cache.count shelf.lacks

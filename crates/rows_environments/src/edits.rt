@@ -85,7 +85,8 @@ pub fn shelf_of(alloc: Global, texts: &str, supply: &str) -> Result<Option<Shelf
         let Some(edit) = edit_of(alloc, text.trim())? else {
             return Ok(None);
         };
-        if let (Some(good), Some(node)) = (edit.change.new, edit.node) {
+        let Edit { change, node } = edit;
+        if let (Some(good), Some(node)) = (change.new, node) {
             let word = word_for(supply, &good.path);
             stock.lay(alloc, good, node, word)?;
         }

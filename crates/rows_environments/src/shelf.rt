@@ -2,7 +2,6 @@ ghost use Rattle.std.specs.Prelude.{◌≡◌, true, Some, Contains, IfErr, IfOk
 ghost use Rattle.std.specs.List.{AllByRecursion};
 ghost use Rattle.conda_path.specs.declared.values.Good.{Good};
 ghost use Rattle.conda_path.specs.declared.values.Node.{Node};
-ghost use Rattle.conda_device.specs.Stores.{digest_of};
 ghost use Rattle.conda_lane.specs.Changes.{IsOf, at};
 ghost use Rattle.conda_lane.specs.Supplies.{IsLackOf};
 ghost use Rattle.conda_lane.specs.declared.supply.SupplyErr.{SupplyErr};
@@ -12,8 +11,8 @@ use conda_checked::{Lack, Lacks};
 use conda_dev::{FaultCount, Tree};
 use conda_lane::{Given, Supply, SupplyErr};
 use conda_path::{Digest, Good, Node, RelPath};
+use conda_paths::digest;
 use rows_plan::cached;
-use sha2::{Digest as _, Sha256};
 use std::alloc::{AllocError, Global};
 
 /// How a shelf gives the node of a path that it doesn't keep.
@@ -69,15 +68,6 @@ pub struct Shelf {
     lacks: Lacks,
     ghost keeps: { (node : Node) (good : Good) → Contains goods.items good
         → at kept good.path ≡ Some node → IsOf good node },
-}
-
-/// The SHA-256 digest of bytes (FIPS 180-4).
-fn digest(bytes: &[u8]) -> Digest
-    ensures { result ≡ digest_of bytes.now }
-{
-    Digest {
-        bytes: Sha256::digest(bytes),
-    }
 }
 
 /// The good of a node at a path.
