@@ -10,7 +10,7 @@ folder="$work/crates/lane_bench"
 rows="$top/crates/rows_environments"
 mkdir -p "$folder/src" "$folder/specs" "$folder/proofs"
 cp "$rows/src/checks.rt" "$rows/src/shelf.rt" "$folder/src/"
-cp "$rows/specs/Lib.antt" "$rows/specs/Shelf.antt" "$folder/specs/"
+cp "$rows/specs/Lib.antt" "$rows/specs/Shelf.antt" "$rows/specs/Supplies.antt" "$folder/specs/"
 cp -r "$rows/proofs/Supplies.antt" "$rows/proofs/checks" "$rows/proofs/shelf" "$folder/proofs/"
 echo 'pub mod Supplies' > "$folder/proofs/Lib.antt"
 mkdir "$folder/proofs/on_machine" "$folder/proofs/in_memory"
@@ -25,7 +25,8 @@ done
 echo 'invariant-loop-first l = (l.lane.share.number ≡ 0) × (l.lane.share.lanes ≡ 1)' >> "$folder/proofs/on_machine/Invariants.antt"
 echo 'invariant-loop-first l = (l.lane.number ≡ 0) × (l.lane.lanes ≡ 1)' >> "$folder/proofs/in_memory/Invariants.antt"
 mkdir "$folder/proofs/one_real_lane"
-sed 's/checks\.one_lane/one_real_lane/' "$rows/proofs/checks/one_lane/Answers.antt" > "$folder/proofs/one_real_lane/Answers.antt"
+sed -E -e 's/checks\.one_lane/one_real_lane/' -e 's/IsInShare, Share/IsInShare, Share, can_all/' -e 's/lane\.(number|lanes);/lane.share.\1;/g' \
+    -e 's/lane\.abilities/can_all/' "$rows/proofs/checks/one_lane/Answers.antt" > "$folder/proofs/one_real_lane/Answers.antt"
 find "$folder" -type f -exec sed -i 's/rows_environments/lane_bench/g' {} +
 
 build lane_bench conda_base conda_path conda_json conda_paths conda_device conda_mem conda_dev conda_checked conda_lane conda_files \

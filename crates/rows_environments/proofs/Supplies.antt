@@ -1,11 +1,10 @@
 -- What a supply with one handle of each kind keeps, and what its handles say of a failure.
 use Rattle.std.proofs.Common.{◌≡◌, ◌≤◌, ◌<◌, ◌+◌, ◌-◌, ◌^◌, ◌⊎◌, inl, inr, ℕ, zero, suc, List, [], ◌∷◌, length, get_or, map, Option, Some, None, refl, ap, subst, sym, ◌∙◌, arith}
-use Rattle.std.specs.Prelude.{slice_get, Contains, IfSome, IsSome, min}
+use Rattle.std.specs.Prelude.{slice_get, Contains, IfSome, unwrap_or}
 use Rattle.std.specs.List.{AllByRecursion}
 use Rattle.std.proofs.lemmas.List.{get_or-map, length-map}
 use Rattle.std.proofs.lemmas.List.Elements.{All-contains, All-from_recursion}
 use Rattle.std.proofs.Math.Nat.{le_refl}
-use Rattle.std.proofs.Math.Option.{some-injective}
 use Rattle.std.proofs.lemmas.Option.{none-some}
 use Rattle.conda_path.specs.declared.values.Good.{Good}
 use Rattle.conda_path.specs.declared.values.Node.{Node}
@@ -15,13 +14,13 @@ use Rattle.conda_checked.specs.declared.lack.Lacks.{Lacks}
 use Rattle.conda_lane.specs.Changes.{IsOf, at}
 use Rattle.conda_lane.specs.Supplies.{EachHandle, HasSupplyCause, IsChanLack, IsGiven, Keeps, KeepsGood, KeepsLacks, SomeHandle, SupplyState}
 use Rattle.conda_lane.specs.declared.supply.SupplyErr.{SupplyErr}
-use Rattle.rows_environments.specs.Shelf.{file_of, supply_of}
+use Rattle.rows_environments.specs.Supplies.{file_of, supply_of}
 
 -- ---- the only handle
 
 one_place : {H : Type 0} (R : ℕ → H → H → Type 0) (was is : H) → R 0 was is → (place : ℕ) (a b : H)
     → slice_get (was ∷ []) place ≡ Some a → slice_get (is ∷ []) place ≡ Some b → R place a b
-one_place R was is h zero a b e f = subst (λ x. R 0 x b) (some-injective was a e) (subst (λ y. R 0 was y) (some-injective is b f) h)
+one_place R was is h zero a b e f = subst (λ x. R 0 x b) (ap (λ found. unwrap_or found was) e) (subst (λ y. R 0 was y) (ap (λ found. unwrap_or found is) f) h)
 one_place R was is h (suc place) a b e f = absurd (none-some a e)
 
 pub each_one : {H : Type 0} (R : ℕ → H → H → Type 0) (was is : H) → R 0 was is → EachHandle R (was ∷ []) (is ∷ [])
@@ -73,7 +72,12 @@ given_kept state keeps_good path node is = record {
 pub memory_is_free : (e : SupplyErr) (before now : SupplyState) → e ≡ SupplyErr.Memory → HasSupplyCause e before now
 memory_is_free e before now is = subst (λ e. HasSupplyCause e before now) (sym is) tt
 
--- the good at a place has its file
-pub file_among : (goods : List Good) (i : ℕ) (good : Good) → i < length goods → good ≡ get_or goods i good → Contains (map file_of goods) (file_of good)
-file_among goods i good below is =
-    (i, subst (λ n. i < n) (sym (length-map goods file_of)) below, get_or-map file_of goods i good (file_of good) below ∙ sym (ap file_of is))
+-- each good has its file
+file_among : (goods : List Good) (good : Good) → Contains goods good → Contains (map file_of goods) (file_of good)
+file_among goods good among =
+    let i = among.0 in
+    (i, subst (λ n. i < n) (sym (length-map goods file_of)) among.1, get_or-map file_of goods i good (file_of good) among.1 ∙ ap file_of among.2)
+
+pub lacks_good : (goods : List Good) (good : Good) (lack : Lack) → Contains goods good → lack.path ≡ good.path → lack.want ≡ Some (good.size, good.digest)
+    → IsChanLack (map file_of goods) 0 lack
+lacks_good goods good lack among path want = (file_of good, file_among goods good among, refl, path, want)

@@ -89,7 +89,7 @@ pub fn can_move_back(tree: &Tree, changes: &[Change]) -> bool
 }
 
 /// Whether this is one of the goods.
-fn has(goods: &[Good], good: &Good) -> bool
+pub fn has(goods: &[Good], good: &Good) -> bool
     ensures { result ≡ true → Contains goods.now good.now }
 {
     match goods {

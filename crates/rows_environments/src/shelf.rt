@@ -1,11 +1,14 @@
-ghost use Rattle.std.specs.Prelude.{◌≡◌, true, Some, Contains, IfErr, IfOk, IfSome};
+ghost use Rattle.std.specs.Prelude.{◌≡◌, ◌≤◌, true, map, Some, Contains, IfErr, IfOk, IfSome};
 ghost use Rattle.std.specs.List.{AllByRecursion};
 ghost use Rattle.conda_path.specs.declared.values.Good.{Good};
 ghost use Rattle.conda_path.specs.declared.values.Node.{Node};
+ghost use Rattle.conda_device.specs.Fault.{Rose};
 ghost use Rattle.conda_lane.specs.Changes.{IsOf, at};
-ghost use Rattle.conda_lane.specs.Supplies.{IsLackOf};
+ghost use Rattle.conda_lane.specs.Supplies.{IsChanLack};
 ghost use Rattle.conda_lane.specs.declared.supply.SupplyErr.{SupplyErr};
+ghost use Rattle.rows_environments.specs.Supplies.{file_of};
 
+use crate::checks::has;
 use conda_base::{Bytes, Copied, Text};
 use conda_checked::{Lack, Lacks};
 use conda_dev::{FaultCount, Tree};
@@ -151,12 +154,29 @@ fn given(alloc: Global, path: &RelPath, node: &Node, how: How) -> Result<Given, 
     }
 }
 
+/// One more, or the last value of the type.
+fn one_more(count: u64) -> u64
+    ensures later { count ≤ result }
+    ensures rose { Rose count result }
+{
+    count.saturating_add(1)
+}
+
 /// What is noted of a good's file, of which this was found.
-fn noted(alloc: Global, good: &Good, found: Option<Digest>) -> Result<Lack, SupplyErr>
-    ensures lack { IfOk result (λ lack. IsLackOf good.now.path good.now.size good.now.digest lack) }
+#[tactic(auto, using(crate::proofs::Supplies::lacks_good))]
+fn noted(
+    alloc: Global,
+    goods: &[Good],
+    good: &Good,
+    found: Option<Digest>,
+) -> Result<Lack, SupplyErr>
+    ensures lack { IfOk result (λ lack. IsChanLack (map file_of goods.now) 0 lack) }
     ensures found { IfOk result (λ lack. lack.found ≡ found) }
     ensures memory { IfErr result (λ e. e ≡ SupplyErr.Memory) }
 {
+    if !has(goods, good) {
+        return Err(SupplyErr::Memory);
+    }
     match Text::from_str(alloc, good.path.as_str()) {
         Ok(path) => Ok(Lack {
             path,
@@ -292,7 +312,7 @@ impl Shelf {
         ensures keeps { Keeps (state_of self.old) (state_of self.new) }
         ensures cause { HasSupplyCause result (state_of self.old) (state_of self.new) }
     {
-        self.lacks.absents = self.lacks.absents.saturating_add(1);
+        self.lacks.absents = one_more(self.lacks.absents);
         self.lacks.last = Some(lack);
         SupplyErr::Missing
     }
@@ -303,7 +323,7 @@ impl Shelf {
         ensures keeps { Keeps (state_of self.old) (state_of self.new) }
         ensures cause { HasSupplyCause result (state_of self.old) (state_of self.new) }
     {
-        self.lacks.mismatches = self.lacks.mismatches.saturating_add(1);
+        self.lacks.mismatches = one_more(self.lacks.mismatches);
         self.lacks.last = Some(lack);
         SupplyErr::Damaged
     }
@@ -314,9 +334,10 @@ impl Shelf {
         ensures found { IfOk result (λ lack. lack.found ≡ found) }
         ensures memory { IfErr result (λ e. e ≡ SupplyErr.Memory) }
     {
-        for good in self.goods.iter() {
+        let goods = self.goods.as_slice();
+        for good in goods {
             if good.path == *path {
-                return noted(alloc, good, found);
+                return noted(alloc, goods, good, found);
             }
         }
         Err(SupplyErr::Memory)

@@ -15,4 +15,7 @@ inside_one share number lanes (path ∷ paths) =
     (ap (lane_number path) lanes ∙ rest_of_one _ ∙ sym number, inside_one share number lanes paths)
 
 pub returns : goal.returns
-returns c = record { apart = c.requires.apart; inside = inside_one _ c.requires.number c.requires.lanes (names c.args.changes.now) }
+returns c =
+    let lane = c.args.lane.now in
+    let share : Share = record { number = lane.number; lanes = lane.lanes; abilities = lane.abilities } in
+    record { apart = c.requires.apart; inside = inside_one share c.requires.number c.requires.lanes (names c.args.changes.now) }
