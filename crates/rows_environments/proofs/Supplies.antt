@@ -80,4 +80,4 @@ file_among goods good among =
 
 pub lacks_good : (goods : List Good) (good : Good) (lack : Lack) → Contains goods good → lack.path ≡ good.path → lack.want ≡ Some (good.size, good.digest)
     → IsChanLack (map file_of goods) 0 lack
-lacks_good goods good lack among path want = (file_of good, file_among goods good among, refl, path, want)
+lacks_good goods good lack among path want = (file_of good, file_among goods good among, refl, (path, want))

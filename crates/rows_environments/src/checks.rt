@@ -21,6 +21,23 @@ fn is_free(path: &RelPath, changes: &[Change]) -> bool
     }
 }
 
+/// Whether the two paths of a change differ, and no other change names them.
+fn is_apart(change: &Change, others: &[Change]) -> bool
+    ensures own { result ≡ true → bytes_eq change.now.path change.now.trash ≡ false }
+    ensures path { result ≡ true →
+        AllByRecursion (λ name. bytes_eq change.now.path name ≡ false) (names others.now) }
+    ensures trash { result ≡ true →
+        AllByRecursion (λ name. bytes_eq change.now.trash name ≡ false) (names others.now) }
+{
+    if change.path == change.trash {
+        return false;
+    }
+    if !is_free(&change.path, others) {
+        return false;
+    }
+    is_free(&change.trash, others)
+}
+
 /// Whether no path is named twice.
 pub fn are_apart(changes: &[Change]) -> bool
     ensures { result ≡ true → AreApart changes.now }
@@ -28,10 +45,10 @@ pub fn are_apart(changes: &[Change]) -> bool
     match changes {
         [] => true,
         [first, rest @ ..] => {
-            first.path != first.trash
-                && is_free(&first.path, rest)
-                && is_free(&first.trash, rest)
-                && are_apart(rest)
+            if !is_apart(first, rest) {
+                return false;
+            }
+            are_apart(rest)
         }
     }
 }

@@ -92,6 +92,13 @@ fn is_of(good: &Good, node: &Node) -> bool
     node.kind == good.kind && bytes.len() as u64 == good.size && digest(bytes) == good.digest
 }
 
+/// Whether the node is of the good, where this is of the path.
+fn fits_one(good: &Good, path: &RelPath, node: &Node) -> bool
+    ensures { result ≡ true → good.now.path ≡ path.now → IsOf good.now node.now }
+{
+    good.path != *path || is_of(good, node)
+}
+
 /// Whether the node is of each good of the path.
 fn fits(goods: &[Good], path: &RelPath, node: &Node) -> bool
     ensures { result ≡ true →
@@ -99,9 +106,7 @@ fn fits(goods: &[Good], path: &RelPath, node: &Node) -> bool
 {
     match goods {
         [] => true,
-        [first, rest @ ..] => {
-            (first.path != *path || is_of(first, node)) && fits(rest, path, node)
-        }
+        [first, rest @ ..] => fits_one(first, path, node) && fits(rest, path, node),
     }
 }
 
@@ -163,7 +168,6 @@ fn one_more(count: u64) -> u64
 }
 
 /// What is noted of a good's file, of which this was found.
-#[tactic(auto, using(crate::proofs::Supplies::lacks_good))]
 fn noted(
     alloc: Global,
     goods: &[Good],
