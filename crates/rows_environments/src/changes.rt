@@ -212,9 +212,10 @@ fn run_supplied(
     texts: &str,
     calls: &str,
 ) -> Result<Option<String>, AllocError> {
-    let (Some(changes), Some(mut shelf)) =
-        (changes_of(alloc, texts)?, shelf_of(alloc, texts, supply)?)
-    else {
+    let (Some(changes), Some(mut shelf)) = (
+        changes_of(alloc, texts)?,
+        shelf_of(alloc, texts, supply)?,
+    ) else {
         return Ok(None);
     };
     let mut lane = lane_of(alloc, tree, Vec::new(alloc))?;
