@@ -1,7 +1,11 @@
 //! The rows of the crates of an environment's files.
 #![tactic(auto)]
 
+mod changes;
+mod checks;
+mod edits;
 mod goods;
+mod shelf;
 
 use conda_base::Text;
 use rows_text::{Table, print_rows};
@@ -17,6 +21,9 @@ impl Table for Environments {
         call: &str,
         arguments: &[Text],
     ) -> Result<Option<String>, AllocError> {
+        if let Some(answer) = changes::answer(alloc, call, arguments)? {
+            return Ok(Some(answer));
+        }
         goods::answer(alloc, call, arguments)
     }
 }
