@@ -32,5 +32,8 @@ fn answer<R: Threads + Wait + Sync>(
 }
 
 fn main(rt: HostRuntime) -> io::Result<()> {
-    print_answers(&rt, &|alloc, call, arguments| answer(&rt, alloc, call, arguments))
+    print_answers(
+        &rt,
+        &|alloc, call, arguments| answer(&rt, alloc, call, arguments),
+    )
 }

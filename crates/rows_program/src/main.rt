@@ -8,5 +8,8 @@ use rows_waiting::print_answers;
 use std::io;
 
 fn main(rt: HostRuntime) -> io::Result<()> {
-    print_answers(&rt, &|alloc, call, arguments| answer(&rt, alloc, call, arguments))
+    print_answers(
+        &rt,
+        &|alloc, call, arguments| answer(&rt, alloc, call, arguments),
+    )
 }
