@@ -34,7 +34,8 @@ pub fn answer<R: Threads + Sync>(
     }
 }
 
-fn index_of<R: Threads + Sync>(
+/// The index of the records and virtual packages of a row.
+pub fn index_of<R: Threads + Sync>(
     rt: &R,
     alloc: Global,
     records: &str,
@@ -55,8 +56,14 @@ fn index_of<R: Threads + Sync>(
     }
 }
 
-/// Each record as `channel/subdir/dist`.
-fn shown(alloc: Global, records: &[PkgRecord]) -> Result<String, AllocError> {
+/// A record as `channel/subdir/dist`.
+pub fn shown_record(alloc: Global, pkg: &PkgRecord) -> Result<String, AllocError> {
+    let (channel, subdir, dist) = (pkg.channel.as_str(), pkg.subdir.as_str(), pkg.dist.text());
+    format!(in alloc; "{channel}/{subdir}/{dist}")
+}
+
+/// The records, or `none` where there is none.
+pub fn shown(alloc: Global, records: &[PkgRecord]) -> Result<String, AllocError> {
     if records.is_empty() {
         return String::from_str(alloc, "none");
     }
@@ -65,8 +72,7 @@ fn shown(alloc: Global, records: &[PkgRecord]) -> Result<String, AllocError> {
         if !text.is_empty() {
             text.push_str(" ")?;
         }
-        let (channel, subdir, dist) = (pkg.channel.as_str(), pkg.subdir.as_str(), pkg.dist.text());
-        let one = format!(in alloc; "{channel}/{subdir}/{dist}")?;
+        let one = shown_record(alloc, pkg)?;
         text.push_str(one.as_str())?;
     }
     Ok(text)

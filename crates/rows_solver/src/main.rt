@@ -1,10 +1,12 @@
 //! The rows of the solver and its checker.
 #![tactic(auto)]
 
+mod clauses;
 mod index;
 mod packages;
 mod refute;
 mod sat;
+mod solution;
 
 use conda_base::Text;
 use rows_text::{Table, print_rows};
@@ -26,6 +28,9 @@ impl<'a, R: Threads + Sync> Table for Solver<'a, R> {
     ) -> Result<Option<String>, AllocError> {
         if call.starts_with("index.") {
             return index::answer(self.rt, alloc, call, arguments);
+        }
+        if call.starts_with("encode.") {
+            return clauses::answer(self.rt, alloc, call, arguments);
         }
         if let Some(answer) = refute::answer(alloc, call, arguments)? {
             return Ok(Some(answer));

@@ -2,7 +2,7 @@ use conda_base::{Rows, Text};
 use conda_encode::{AskKind, Asked};
 use conda_index::Virtual;
 use conda_path::{Dist, DistErr};
-use conda_record::{Noarch, PkgRecord, RecordField};
+use conda_record::{NamePool, Noarch, PkgRecord, RecordField};
 use conda_repodata::{Aside, Repodata};
 use conda_spec::{Spec, SpecErr};
 use conda_version::{Version, VersionErr};
@@ -12,6 +12,7 @@ use std::alloc::{AllocError, Global};
 // SPEC`, `bars SPEC`, `number N` or `time N`. `aside` in place of a dist is an entry that is set
 // aside. Neighbours of one channel and subdir are one part. Virtual packages stand between `;` as
 // `name version build`, and asked specifications likewise, those that are pinned behind `pinned `.
+// Pools stand between `+`, each as its name, `=` and its records.
 
 /// The specification of a text, or None where it is none.
 pub fn spec_of(alloc: Global, text: &str) -> Result<Option<Spec>, AllocError> {
@@ -217,4 +218,38 @@ pub fn asked_of(alloc: Global, text: &str) -> Result<Option<Vec<Asked>>, AllocEr
         })?;
     }
     Ok(Some(asked))
+}
+
+/// The pool that a row gives by a name and records.
+fn pool_of(alloc: Global, text: &str) -> Result<Option<NamePool>, AllocError> {
+    let Some((name, records)) = text.split_once('=') else {
+        return Ok(None);
+    };
+    let Some(parts) = parts_of(alloc, records)? else {
+        return Ok(None);
+    };
+    let mut recs = Rows::new(alloc);
+    for part in parts {
+        let Repodata { recs: more, .. } = part;
+        for pkg in more.into_vec() {
+            recs.push(pkg)?;
+        }
+    }
+    let name = Text::from_str(alloc, name.trim())?;
+    Ok(Some(NamePool { name, recs }))
+}
+
+/// The pools that a row gives.
+pub fn pools_of(alloc: Global, text: &str) -> Result<Option<Vec<NamePool>>, AllocError> {
+    let mut pools = Vec::new(alloc);
+    for one in text.split('+') {
+        if one.trim().is_empty() {
+            continue;
+        }
+        match pool_of(alloc, one)? {
+            Some(pool) => pools.push(pool)?,
+            None => return Ok(None),
+        }
+    }
+    Ok(Some(pools))
 }
