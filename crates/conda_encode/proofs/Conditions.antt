@@ -1,11 +1,9 @@
 -- What the tests of pools and items say together.
 use Rattle.std.specs.Prelude.{◌≡◌, ◌≢◌, ◌↔◌, ℕ, ◌+◌, ◌<◌, ◌≤◌, ◌^◌, zero, suc, Bool, true, false, IsTrue, List, [], ◌∷◌, All, AllPairs, Contains, length, map}
-use Rattle.std.proofs.Common.{refl, ap, sym, ◌∙◌, subst, arith, drop, get_or, take, true≢false}
-use Rattle.std.proofs.Math.Seq.{drop-cons}
+use Rattle.std.proofs.Common.{refl, ap, sym, ◌∙◌, subst, arith, get_or, take, true≢false}
 use Rattle.std.proofs.lemmas.Cmp.{nat_list_cmp_total, tied_itself}
 use Rattle.std.proofs.lemmas.List.Elements.{All-contains}
 use Rattle.std.proofs.lemmas.List.Folds.{length-flat_map-take}
-use Rattle.std.specs.Char.{to_ascii_lowercase}
 use Rattle.std.specs.Cmp.Lexicographic.{slice_cmp}
 use Rattle.std.specs.List.{AllByRecursion}
 use Rattle.std.specs.Ordering.{nat_cmp}
@@ -20,31 +18,6 @@ use Rattle.conda_encode.specs.Variables.{IsPlain, IsRequest, records}
 use Rattle.conda_encode.specs.declared.asked.Asked.{Asked}
 use Rattle.conda_encode.proofs.Members.{In, from_contains, in_flat_map, of_flat_map, to_contains}
 
--- ---- a name in lower case
-
-cons_same : (x y : ℕ) (xs ys : List ℕ) → x ≡ y → (x ∷ xs ≡ y ∷ ys) ↔ (xs ≡ ys)
-cons_same x y xs ys e = ((λ h. cc), (λ h. cc))
-
--- one byte more is that of the name in lower case
-pub lowered_more : (left right : List ℕ) (i : ℕ) (d e : ℕ) → i < length left → i < length right
-    → to_ascii_lowercase (get_or left i d) ≡ get_or right i e
-    → (lowered (drop i left) ≡ drop i right) ↔ (lowered (drop (i + 1) left) ≡ drop (i + 1) right)
-lowered_more left right i d e h k same =
-    let next : suc i ≡ i + 1 = omega arith in
-    subst (λ n. (lowered (drop i left) ≡ drop i right) ↔ (lowered (drop n left) ≡ drop n right)) next
-    (subst (λ l. (lowered l ≡ drop i right) ↔ (lowered (drop (suc i) left) ≡ drop (suc i) right)) (sym (drop-cons left i d h))
-    (subst (λ r. (lowered (get_or left i d ∷ drop (suc i) left) ≡ r) ↔ (lowered (drop (suc i) left) ≡ drop (suc i) right)) (sym (drop-cons right i e k))
-    (cons_same (to_ascii_lowercase (get_or left i d)) (get_or right i e) (lowered (drop (suc i) left)) (drop (suc i) right) same)))
-
--- a byte that is another one
-pub lowered_not : (left right : List ℕ) (i : ℕ) (d e : ℕ) → i < length left → i < length right
-    → (to_ascii_lowercase (get_or left i d) ≡ get_or right i e → ⊥) → lowered (drop i left) ≡ drop i right → ⊥
-lowered_not left right i d e h k other same =
-    let front : lowered (get_or left i d ∷ drop (suc i) left) ≡ get_or right i e ∷ drop (suc i) right =
-    ap lowered (sym (drop-cons left i d h)) ∙ same ∙ drop-cons right i e k
-    in
-    other cc
-
 -- ---- names that differ
 
 abbrev pub Apart : List NamePool → Type 0
@@ -58,8 +31,14 @@ apart_none i j d low short = absurd (omega arith)
 
 pub apart_cons : (pool : NamePool) (rest : List NamePool)
     → Apart (pool ∷ rest) ↔ (All (λ (other : NamePool). pool.name ≢ other.name) rest × Apart rest)
-apart_cons pool rest = (λ h. (λ k d lt. h zero (suc k) d (omega arith) (omega arith), λ i j d low short. h (suc i) (suc j) d (omega arith) (omega arith)), made)
+apart_cons pool rest = (parts, made)
   where
+    parts : Apart (pool ∷ rest) → All (λ (other : NamePool). pool.name ≢ other.name) rest × Apart rest
+    parts h = (
+      λ k d lt. h zero (suc k) d (omega arith) (omega arith),
+      λ i j d low short. h (suc i) (suc j) d (omega arith) (omega arith),
+    )
+
     made : All (λ (other : NamePool). pool.name ≢ other.name) rest × Apart rest → Apart (pool ∷ rest)
     made h zero zero d low short = absurd (omega arith)
     made h zero (suc j) d low short = h.0 j d (omega arith)
@@ -101,7 +80,8 @@ pub step : (pools left rest : List NamePool) (pool : NamePool) → left ≡ pool
     → All (λ (other : NamePool). pool.name ≢ other.name) rest → Apart pools ↔ Apart rest
 step pools left rest pool e whole here =
     let cons : Apart left ↔ (All (λ (other : NamePool). pool.name ≢ other.name) rest × Apart rest) =
-    subst (λ (l : List NamePool). Apart l ↔ (All (λ (other : NamePool). pool.name ≢ other.name) rest × Apart rest)) (sym e) (apart_cons pool rest)
+    subst (λ (l : List NamePool). Apart l ↔ (All (λ (other : NamePool). pool.name ≢ other.name) rest × Apart rest)) (sym e)
+    (apart_cons pool rest)
     in
     (λ h. (cons.0 (whole.0 h)).1, λ h. whole.1 (cons.1 (here, h)))
 
@@ -153,7 +133,8 @@ each P xs h k d lt = h (get_or xs k d) (k, lt, same xs k d (get_or xs k d) lt)
 abbrev ArePlain : List Asked → Type 0
 ArePlain asked = All (λ (item : Asked). IsPlain item.spec) asked
 
-in_records : (pools : List NamePool) (pool : NamePool) (pkg : PkgRecord) → Contains pools pool → Contains pool.recs pkg → Contains (records pools) pkg
+in_records : (pools : List NamePool) (pool : NamePool) (pkg : PkgRecord) → Contains pools pool → Contains pool.recs pkg
+    → Contains (records pools) pkg
 in_records pools pool pkg c d =
     to_contains (records pools) pkg
     (in_flat_map (λ (p : NamePool). p.recs) pools pool pkg (from_contains pools pool c) (from_contains pool.recs pkg d))
@@ -180,13 +161,16 @@ is_request pools asked = (parts, whole)
 
         fit : (pool : NamePool) → Contains pools pool → IsFit pool
         fit pool c =
-            (fits pool).1 (each (λ (pkg : PkgRecord). lowered pkg.name ≡ pool.name) pool.recs (is.own pool c), each NeedsPlainly pool.recs (plain pool c))
+            (fits pool).1 (each (λ (pkg : PkgRecord). lowered pkg.name ≡ pool.name) pool.recs (is.own pool c),
+            each NeedsPlainly pool.recs (plain pool c))
 
     whole : (length (records pools) < 2 ^ 28) × (Apart pools × (All IsFit pools × ArePlain asked)) → IsRequest pools asked
     whole h = record {
       few = h.0;
       apart = h.1.0;
-      own = λ pool c pkg d. All-contains (λ (p : PkgRecord). lowered p.name ≡ pool.name) pool.recs pkg ((fits pool).0 (All-contains IsFit pools pool h.1.1.0 c)).0 d;
+      own = λ pool c pkg d.
+      All-contains (λ (p : PkgRecord). lowered p.name ≡ pool.name) pool.recs pkg
+      ((fits pool).0 (All-contains IsFit pools pool h.1.1.0 c)).0 d;
       items_plain = λ item c. All-contains (λ (i : Asked). IsPlain i.spec) asked item h.1.1.1 c;
       depends_plain = λ pkg c spec d. All-contains IsPlain pkg.depends spec ((plainly pkg).0 (needs_at pools h.1.1.0 pkg c)).0 d;
       constrains_plain = λ pkg c spec d. All-contains IsPlain pkg.constrains spec ((plainly pkg).0 (needs_at pools h.1.1.0 pkg c)).1 d;

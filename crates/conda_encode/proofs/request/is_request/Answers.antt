@@ -12,11 +12,13 @@ returns-then-not-are_apart c =
 pub returns-then-are_fit : goal.returns-then-are_fit
 returns-then-are_fit c =
     rest_is c.are_fit.result c.items_are_plain.result
-    (the_parts c.args.pools.now c.args.asked.now (c.are_few.ensures.0 c.if-not-are_few.false) (c.are_apart.ensures.0 c.if-not-are_apart.false))
+    (the_parts c.args.pools.now c.args.asked.now (c.are_few.ensures.0 c.if-not-are_few.false)
+    (c.are_apart.ensures.0 c.if-not-are_apart.false))
     c.are_fit.ensures c.items_are_plain.ensures c.if-are_fit.true
 
 pub returns-else-are_fit : goal.returns-else-are_fit
 returns-else-are_fit c =
     lost c.are_fit.result
-    (the_parts c.args.pools.now c.args.asked.now (c.are_few.ensures.0 c.if-not-are_few.false) (c.are_apart.ensures.0 c.if-not-are_apart.false))
+    (the_parts c.args.pools.now c.args.asked.now (c.are_few.ensures.0 c.if-not-are_few.false)
+    (c.are_apart.ensures.0 c.if-not-are_apart.false))
     c.are_fit.ensures c.if-are_fit.false
