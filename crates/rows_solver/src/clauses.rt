@@ -58,14 +58,14 @@ fn request(alloc: Global, pools: &str, asked: &str) -> Result<Option<String>, Al
 fn encoded_of<R: Threads + Sync>(
     rt: &R,
     alloc: Global,
-    records: &str,
+    channels: &str,
     virtuals: &str,
     asked: &str,
 ) -> Result<Option<Encoded>, AllocError>
     ensures request { IfOk result (λ made. IfSome made (λ e. IsRequest e.pools e.asked)) }
     ensures vars { IfOk result (λ made. IfSome made (λ e. length (records e.pools) ≤ e.vars)) }
 {
-    let Some(index) = index_of(rt, alloc, records, virtuals)? else {
+    let Some(index) = index_of(rt, alloc, channels, virtuals)? else {
         return Ok(None);
     };
     let Some(asked) = asked_of(alloc, asked)? else {
@@ -74,19 +74,23 @@ fn encoded_of<R: Threads + Sync>(
     let Ok(pools) = index.pools(alloc, asked.as_slice()) else {
         return Err(AllocError);
     };
-    if !is_request(pools.as_slice(), asked.as_slice()) {
-        return Ok(None);
-    }
-    Ok(Some(as_clauses(alloc, pools.as_slice(), asked.as_slice())?))
+    as_clauses(alloc, pools.as_slice(), asked.as_slice())
 }
 
-fn as_clauses(alloc: Global, pools: &[NamePool], asked: &[Asked]) -> Result<Encoded, AllocError>
-    requires { IsRequest pools.now asked.now }
-    ensures request { IfOk result (λ e. IsRequest e.pools e.asked) }
-    ensures vars { IfOk result (λ e. length (records e.pools) ≤ e.vars) }
+/// The clauses of these pools and items, if they are a request.
+fn as_clauses(
+    alloc: Global,
+    pools: &[NamePool],
+    asked: &[Asked],
+) -> Result<Option<Encoded>, AllocError>
+    ensures request { IfOk result (λ made. IfSome made (λ e. IsRequest e.pools e.asked)) }
+    ensures vars { IfOk result (λ made. IfSome made (λ e. length (records e.pools) ≤ e.vars)) }
 {
+    if !is_request(pools, asked) {
+        return Ok(None);
+    }
     match encode(alloc, pools, asked) {
-        Ok(encoded) => Ok(encoded),
+        Ok(encoded) => Ok(Some(encoded)),
         Err(_) => Err(AllocError),
     }
 }
