@@ -9,7 +9,6 @@ use Rattle.std.specs.List.{AllByRecursion}
 use Rattle.std.specs.Ordering.{nat_cmp}
 use Rattle.std.specs.declared.cmp.Ordering.TheVariants.{Less, Equal}
 use Rattle.conda_base.specs.Texts.{Ascending, IsBeforeFirst}
-use Rattle.conda_spec.specs.Parts.{Parts}
 use Rattle.conda_record.specs.declared.pkg_record.PkgRecord.{PkgRecord}
 use Rattle.conda_record.specs.declared.pool.NamePool.{NamePool}
 use Rattle.conda_encode.specs.Fit.{IsFit, NeedsPlainly}
@@ -161,16 +160,18 @@ is_request pools asked = (parts, whole)
 
         fit : (pool : NamePool) → Contains pools pool → IsFit pool
         fit pool c =
-            (fits pool).1 (each (λ (pkg : PkgRecord). lowered pkg.name ≡ pool.name) pool.recs (is.own pool c),
-            each NeedsPlainly pool.recs (plain pool c))
+            (fits pool).1 (
+              each (λ (pkg : PkgRecord). lowered pkg.name ≡ pool.name) pool.recs (is.own pool c),
+              each NeedsPlainly pool.recs (plain pool c),
+            )
 
     whole : (length (records pools) < 2 ^ 28) × (Apart pools × (All IsFit pools × ArePlain asked)) → IsRequest pools asked
     whole h = record {
       few = h.0;
       apart = h.1.0;
       own = λ pool c pkg d.
-      All-contains (λ (p : PkgRecord). lowered p.name ≡ pool.name) pool.recs pkg
-      ((fits pool).0 (All-contains IsFit pools pool h.1.1.0 c)).0 d;
+          All-contains (λ (p : PkgRecord). lowered p.name ≡ pool.name) pool.recs pkg
+          ((fits pool).0 (All-contains IsFit pools pool h.1.1.0 c)).0 d;
       items_plain = λ item c. All-contains (λ (i : Asked). IsPlain i.spec) asked item h.1.1.1 c;
       depends_plain = λ pkg c spec d. All-contains IsPlain pkg.depends spec ((plainly pkg).0 (needs_at pools h.1.1.0 pkg c)).0 d;
       constrains_plain = λ pkg c spec d. All-contains IsPlain pkg.constrains spec ((plainly pkg).0 (needs_at pools h.1.1.0 pkg c)).1 d;

@@ -5,11 +5,7 @@ use std::alloc::{AllocError, Global};
 
 /// Whether members that were taken from their names' pools are a solution, by the definition: it
 /// knows no clause.
-pub fn is_solution(
-    alloc: Global,
-    set: &[PkgRecord],
-    asked: &[Asked],
-) -> Result<bool, AllocError> {
+pub fn is_solution(alloc: Global, set: &[PkgRecord], asked: &[Asked]) -> Result<bool, AllocError> {
     if !no_name_twice(set) || !asked.iter().all(|item| is_answered(set, item)) {
         return Ok(false);
     }
@@ -74,9 +70,7 @@ fn allows(pkg: &PkgRecord, other: &PkgRecord) -> bool {
 
 /// Whether a wanted item names the record.
 fn is_wanted(asked: &[Asked], pkg: &PkgRecord) -> bool {
-    asked
-        .iter()
-        .any(|item| matches!(item.kind, AskKind::Wanted) && names_record(&item.spec, pkg))
+    asked.iter().any(|item| matches!(item.kind, AskKind::Wanted) && names_record(&item.spec, pkg))
 }
 
 /// Whether a dependency of the member names the record.
@@ -101,11 +95,7 @@ fn are_reached(alloc: Global, set: &[PkgRecord], asked: &[Asked]) -> Result<bool
 }
 
 /// The marks, and those of what the marked members need.
-fn one_step_on(
-    alloc: Global,
-    set: &[PkgRecord],
-    marks: &[bool],
-) -> Result<Vec<bool>, AllocError> {
+fn one_step_on(alloc: Global, set: &[PkgRecord], marks: &[bool]) -> Result<Vec<bool>, AllocError> {
     let mut more = Vec::new(alloc);
     for (pkg, mark) in set.iter().zip(marks) {
         more.push(*mark || is_needed(set, marks, pkg))?;
