@@ -1,0 +1,6 @@
+pub mod Reading
+pub mod Texts
+pub mod Rules
+pub mod Folds
+pub mod Agreement
+pub mod Shows

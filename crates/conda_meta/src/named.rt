@@ -1,0 +1,54 @@
+ghost use Rattle.std.specs.Prelude.{◌≡◌, map};
+ghost use Rattle.conda_meta.specs.Reading as reading;
+
+use crate::linked::Linked;
+use conda_path::{Good, RelPath};
+
+/// What is listed by a text: a good by its path, a package by its dist.
+pub trait Named {
+    ghost use Rattle.std.specs.Prelude.{◌≡◌, List, ℕ};
+
+    ghost name: { Self → List ℕ };
+
+    fn name(&self) -> &str
+        ensures { result.now ≡ name self.now };
+}
+
+impl Named for RelPath {
+    ghost name = { λ path. path };
+
+    fn name(&self) -> &str {
+        self.as_str()
+    }
+}
+
+impl Named for Good {
+    ghost name = { λ good. good.path };
+
+    fn name(&self) -> &str {
+        self.path.as_str()
+    }
+}
+
+impl Named for Linked {
+    ghost name = { λ package. package.rec.dist };
+
+    fn name(&self) -> &str {
+        self.rec.dist.text()
+    }
+}
+
+/// Whether the names ascend by bytes, so that none stands twice.
+pub fn ascend<T: Named>(items: &[T]) -> bool
+    ensures { result ≡ reading.ascend (map T.name items.now) }
+{
+    let mut last = None;
+    for item in items {
+        let name = item.name();
+        if let Some(last) = last && name <= last {
+            return false;
+        }
+        last = Some(name);
+    }
+    true
+}

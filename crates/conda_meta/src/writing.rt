@@ -1,0 +1,243 @@
+ghost use Rattle.std.specs.Prelude.{◌≡◌, IfOk, OnOk, Ok};
+ghost use Rattle.std.specs.List.{AllByRecursion};
+ghost use Rattle.serde_json.specs.Data.{array, number, put as with_member, string, unsigned};
+ghost use Rattle.serde_json.specs.View.{items_view, members_view, view};
+ghost use Rattle.conda_record.specs.Records.{specs_data};
+ghost use Rattle.conda_record.specs.Rules.{ReadsBack};
+ghost use Rattle.conda_meta.specs.Texts as texts;
+
+use crate::linked::Linked;
+use crate::revision::Revision;
+use conda_path::{Dist, Good, Kind};
+use conda_record::{Noarch, PkgRecord};
+use conda_spec::Spec;
+use serde_json::{Map, Value, put};
+use std::alloc::{AllocError, Global};
+
+type Members = Map<String, Value>;
+
+/// Puts a member that is a text.
+fn put_text(alloc: Global, members: &mut Members, name: &str, text: &str) -> Result<(), AllocError>
+    ensures { OnOk result (members_view members.new.entries
+        ≡ with_member name.now (string text.now) (members_view members.old.entries)) }
+{
+    let value = Value::try_from_str(alloc, text)?;
+    put(members, alloc, name, value)
+}
+
+/// Puts a member that is a whole number.
+fn put_number(alloc: Global, members: &mut Members, name: &str, n: u64) -> Result<(), AllocError>
+    ensures { OnOk result (members_view members.new.entries
+        ≡ with_member name.now (number (unsigned n)) (members_view members.old.entries)) }
+{
+    put(members, alloc, name, Value::from(n))
+}
+
+/// Puts a member that is a list of specifications in normal form.
+fn put_specs(
+    alloc: Global,
+    members: &mut Members,
+    name: &str,
+    specs: &[Spec],
+) -> Result<(), AllocError>
+    ensures member { OnOk result (members_view members.new.entries
+        ≡ with_member name.now (array (specs_data specs.now)) (members_view members.old.entries)) }
+    ensures again { OnOk result (AllByRecursion ReadsBack specs.now) }
+{
+    let list = specs_value(alloc, specs)?;
+    put(members, alloc, name, Value::Array(list))
+}
+
+/// The normal form of a specification.
+fn spec_value(alloc: Global, spec: &Spec) -> Result<Value, AllocError> {
+    match spec.text(alloc) {
+        Ok(text) => Ok(Value::String(text)),
+        Err(_) => Err(AllocError),
+    }
+}
+
+/// The normal forms of specifications, in their order.
+fn specs_value(alloc: Global, specs: &[Spec]) -> Result<Vec<Value>, AllocError>
+    ensures list { IfOk result (λ list. items_view list.items ≡ specs_data specs.now) }
+    ensures again { OnOk result (AllByRecursion ReadsBack specs.now) }
+{
+    let mut list = Vec::with_capacity(alloc, specs.len())?;
+    for spec in specs {
+        list.push(spec_value(alloc, spec)?)?;
+    }
+    Ok(list)
+}
+
+// ---- a revision
+
+fn kind_name(kind: Kind) -> &'static str
+    ensures { result.now ≡ texts.kind_name kind }
+{
+    match kind {
+        Kind::File => "file",
+        Kind::Exec => "exec",
+        Kind::Soft => "soft",
+    }
+}
+
+/// A good in a revision.
+fn good_value(alloc: Global, good: &Good) -> Result<Value, AllocError>
+    ensures { IfOk result (λ value. view value ≡ texts.good_data good.now) }
+{
+    let digits = hex::encode(alloc, good.digest.bytes)?;
+    let mut members = Map::new(alloc);
+    put_text(alloc, &mut members, "kind", kind_name(good.kind))?;
+    put_text(alloc, &mut members, "path", good.path.as_str())?;
+    put_text(alloc, &mut members, "sha256", digits.as_str())?;
+    put_number(alloc, &mut members, "size", good.size)?;
+    Ok(Value::Object(members))
+}
+
+/// The goods of a package in a revision.
+fn goods_value(alloc: Global, goods: &[Good]) -> Result<Vec<Value>, AllocError> {
+    let mut list = Vec::with_capacity(alloc, goods.len())?;
+    for good in goods {
+        list.push(good_value(alloc, good)?)?;
+    }
+    Ok(list)
+}
+
+/// The object of a record.
+fn record_value(alloc: Global, rec: &PkgRecord) -> Result<Value, AllocError> {
+    match rec.value(alloc) {
+        Ok(value) => Ok(value),
+        Err(_) => Err(AllocError),
+    }
+}
+
+/// A package in a revision.
+fn linked_value(alloc: Global, package: &Linked) -> Result<Value, AllocError>
+    ensures { IfOk result (λ value. view value ≡ texts.linked_data package.now) }
+{
+    let goods = goods_value(alloc, package.goods.list())?;
+    let inner = record_value(alloc, &package.rec)?;
+    let mut members = Map::new(alloc);
+    put(&mut members, alloc, "goods", Value::Array(goods))?;
+    put(&mut members, alloc, "record", inner)?;
+    Ok(Value::Object(members))
+}
+
+/// The packages of a revision.
+fn all_linked(alloc: Global, linked: &[Linked]) -> Result<Vec<Value>, AllocError> {
+    let mut list = Vec::with_capacity(alloc, linked.len())?;
+    for package in linked {
+        list.push(linked_value(alloc, package)?)?;
+    }
+    Ok(list)
+}
+
+/// The dists of a revision.
+fn dists_value(alloc: Global, dists: &[Dist]) -> Result<Vec<Value>, AllocError> {
+    let mut list = Vec::with_capacity(alloc, dists.len())?;
+    for dist in dists {
+        list.push(Value::try_from_str(alloc, dist.text())?)?;
+    }
+    Ok(list)
+}
+
+/// The object of a revision.
+pub fn revision_value(alloc: Global, revision: &Revision) -> Result<Value, AllocError>
+    ensures { IfOk result (λ value. view value ≡ texts.revision_data revision.now) }
+{
+    let linked = all_linked(alloc, revision.linked.as_slice())?;
+    let unlinked = dists_value(alloc, revision.unlinked.as_slice())?;
+    let mut members = Map::new(alloc);
+    put(&mut members, alloc, "linked", Value::Array(linked))?;
+    put_specs(alloc, &mut members, "requested", revision.requested.as_slice())?;
+    put(&mut members, alloc, "unlinked", Value::Array(unlinked))?;
+    Ok(Value::Object(members))
+}
+
+// ---- a package in a prefix
+
+fn type_name(kind: Kind) -> &'static str
+    ensures { result.now ≡ texts.type_name kind }
+{
+    match kind {
+        Kind::File | Kind::Exec => "hardlink",
+        Kind::Soft => "softlink",
+    }
+}
+
+/// What `paths_data` says of a good.
+fn placed_value(alloc: Global, good: &Good) -> Result<Value, AllocError>
+    ensures { IfOk result (λ value. view value ≡ texts.placed_data good.now) }
+{
+    let digits = hex::encode(alloc, good.digest.bytes)?;
+    let mut members = Map::new(alloc);
+    put_text(alloc, &mut members, "_path", good.path.as_str())?;
+    put_text(alloc, &mut members, "path_type", type_name(good.kind))?;
+    put_text(alloc, &mut members, "sha256_in_prefix", digits.as_str())?;
+    put_number(alloc, &mut members, "size_in_bytes", good.size)?;
+    Ok(Value::Object(members))
+}
+
+/// What `paths_data` says of all goods.
+fn all_placed(alloc: Global, goods: &[Good]) -> Result<Vec<Value>, AllocError> {
+    let mut list = Vec::with_capacity(alloc, goods.len())?;
+    for good in goods {
+        list.push(placed_value(alloc, good)?)?;
+    }
+    Ok(list)
+}
+
+/// The object in `paths_data`.
+fn paths_data_value(alloc: Global, goods: &[Good]) -> Result<Value, AllocError> {
+    let placed = all_placed(alloc, goods)?;
+    let mut members = Map::new(alloc);
+    put(&mut members, alloc, "paths", Value::Array(placed))?;
+    put_number(alloc, &mut members, "paths_version", 1)?;
+    Ok(Value::Object(members))
+}
+
+/// The paths of goods.
+fn files_value(alloc: Global, goods: &[Good]) -> Result<Vec<Value>, AllocError> {
+    let mut list = Vec::with_capacity(alloc, goods.len())?;
+    for good in goods {
+        list.push(Value::try_from_str(alloc, good.path.as_str())?)?;
+    }
+    Ok(list)
+}
+
+/// The members of a record but for `dist` and `noarch`.
+fn record_members(alloc: Global, rec: &PkgRecord) -> Result<Members, AllocError> {
+    let mut members = Map::new(alloc);
+    put_text(alloc, &mut members, "build", rec.build.as_str())?;
+    put_number(alloc, &mut members, "build_number", rec.build_number)?;
+    put_text(alloc, &mut members, "channel", rec.channel.as_str())?;
+    put_specs(alloc, &mut members, "constrains", rec.constrains.as_slice())?;
+    put_specs(alloc, &mut members, "depends", rec.depends.as_slice())?;
+    put_text(alloc, &mut members, "fn", rec.dist.text())?;
+    put_text(alloc, &mut members, "name", rec.name.as_str())?;
+    put_text(alloc, &mut members, "subdir", rec.subdir.as_str())?;
+    put_number(alloc, &mut members, "timestamp", rec.timestamp)?;
+    put_text(alloc, &mut members, "version", rec.version.text())?;
+    Ok(members)
+}
+
+/// Puts the member `noarch`, where it says something.
+fn put_noarch(alloc: Global, members: &mut Members, noarch: Noarch) -> Result<(), AllocError> {
+    match noarch {
+        Noarch::No => Ok(()),
+        Noarch::Generic => put_text(alloc, members, "noarch", "generic"),
+        Noarch::Python => put_text(alloc, members, "noarch", "python"),
+    }
+}
+
+/// The object of a package in a prefix.
+pub fn prefix_value(alloc: Global, package: &Linked) -> Result<Value, AllocError>
+    ensures { IfOk result (λ value. view value ≡ texts.prefix_data package.now) }
+{
+    let files = files_value(alloc, package.goods.list())?;
+    let placed = paths_data_value(alloc, package.goods.list())?;
+    let mut members = record_members(alloc, &package.rec)?;
+    put_noarch(alloc, &mut members, package.rec.noarch)?;
+    put(&mut members, alloc, "files", Value::Array(files))?;
+    put(&mut members, alloc, "paths_data", placed)?;
+    Ok(Value::Object(members))
+}
