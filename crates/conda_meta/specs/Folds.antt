@@ -13,12 +13,12 @@ use Rattle.conda_meta.specs.declared.revision.Revision.{Revision}
 
 -- the package, if it is of this dist
 abbrev pub if_of : List ℕ → Linked → Option Linked
-if_of dist package = if is_text package.rec.dist dist then Some package else None
+if_of dist one = if is_text one.rec.dist dist then Some one else None
 
 -- the last package of this dist, if there is one
 abbrev pub last_of : List ℕ → List Linked → Option Linked
 last_of dist [] = None
-last_of dist (package ∷ rest) = option_or (last_of dist rest) (if_of dist package)
+last_of dist (one ∷ rest) = option_or (last_of dist rest) (if_of dist one)
 
 -- what was there, unless the dist is one of these
 abbrev pub unless_among : List ℕ → List (List ℕ) → Option Linked → Option Linked
@@ -46,7 +46,7 @@ requested_after before (revision ∷ rest) = requested_after revision.requested 
 
 -- The packages are those that the revisions leave, by dist, and the requested specifications those of the last.
 pub record IsFold (revisions : List Revision) (folded : Folded) : Type 0 where
-  pub linked : (package : Linked) → Contains folded.linked package ↔ (left revisions package.rec.dist ≡ Some package)
+  pub linked : (one : Linked) → Contains folded.linked one ↔ (left revisions one.rec.dist ≡ Some one)
   pub ascending : Ascending (dists_of folded.linked)
   pub requested : folded.requested ≡ requested_after [] revisions
 

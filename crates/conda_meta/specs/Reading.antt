@@ -168,7 +168,7 @@ all_objects no_items = true
 all_objects (item value rest) = is_some (as_object value) && all_objects rest
 
 abbrev pub dists_of : List Linked → List (List ℕ)
-dists_of linked = map (λ package. package.rec.dist) linked
+dists_of linked = map (λ one. one.rec.dist) linked
 
 -- the linked packages, which ascend by dist
 abbrev pub linked_list : Data → Read (List Linked) MetaField

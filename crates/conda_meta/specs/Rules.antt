@@ -62,14 +62,14 @@ pub record IsGood (value : Data) (good : Good) : Type 0 where
   pub size : number_at value (codes "size") ≡ Some good.size
 
 -- the element is this package: its goods, ascending by path, and its record
-pub record IsLinked (value : Data) (package : Linked) : Type 0 where
+pub record IsLinked (value : Data) (linked : Linked) : Type 0 where
   pub elements : Items
   pub inner : Data
   pub goods : list_at value (codes "goods") ≡ Some elements
-  pub are_goods : Are IsGood elements package.goods
-  pub ascending : Ascending (paths_of package.goods)
+  pub are_goods : Are IsGood elements linked.goods
+  pub ascending : Ascending (paths_of linked.goods)
   pub rec : inner_at value (codes "record") ≡ Some inner
-  pub is_record : IsRecordAt (codes "dist") inner package.rec
+  pub is_record : IsRecordAt (codes "dist") inner linked.rec
 
 -- the element is the normal form of this specification, whose name has no star
 pub record IsRequested (value : Data) (parts : Parts) : Type 0 where
@@ -113,27 +113,27 @@ pub record IsPlaced (value : Data) (good : Good) : Type 0 where
 
 -- The object is this package: the record's own fields, the paths of its goods, ascending, and what version 1 of `paths_data` says of
 -- each of them.
-pub record IsPrefixRecord (value : Data) (package : Linked) : Type 0 where
+pub record IsPrefixRecord (value : Data) (linked : Linked) : Type 0 where
   pub files : Items
   pub inner : Data
   pub elements : Items
-  pub is_record : IsRecordAt (codes "fn") value package.rec
+  pub is_record : IsRecordAt (codes "fn") value linked.rec
   pub listed : list_at value (codes "files") ≡ Some files
-  pub are_files : Are IsFile files package.goods
-  pub ascending : Ascending (paths_of package.goods)
+  pub are_files : Are IsFile files linked.goods
+  pub ascending : Ascending (paths_of linked.goods)
   pub paths_data : inner_at value (codes "paths_data") ≡ Some inner
   pub version : number_at inner (codes "paths_version") ≡ Some 1
   pub paths : list_at inner (codes "paths") ≡ Some elements
-  pub are_placed : Are IsPlaced elements package.goods
+  pub are_placed : Are IsPlaced elements linked.goods
 
 -- ---- what such files give
 
 -- A package that a revision can have: a well-formed record of a channel and a folder of it, and goods that don't lie below `conda-meta`.
-pub record IsPackage (package : Linked) : Type 0 where
-  pub rec : IsWellFormed package.rec
-  pub channel : is_channel package.rec.channel ≡ true
-  pub subdir : IsSubdir package.rec.subdir
-  pub outside : AllByRecursion (λ good. is_meta good.path ≡ false) package.goods
+pub record IsPackage (linked : Linked) : Type 0 where
+  pub rec : IsWellFormed linked.rec
+  pub channel : is_channel linked.rec.channel ≡ true
+  pub subdir : IsSubdir linked.rec.subdir
+  pub outside : AllByRecursion (λ good. is_meta good.path ≡ false) linked.goods
 
 -- A revision that a file can have: such packages, no two of one dist and in order, and specifications in order without a star in a name.
 pub record IsGoodRevision (revision : Revision) : Type 0 where

@@ -55,7 +55,7 @@ revision_path n = codes "conda-meta/revisions/" ++ (decimal n ++ codes ".json")
 pub data IsMeta (state : State) : List ℕ → List ℕ → Type 0 where
   history : state.present ≡ true → IsMeta state history_path (state_history state)
   revision : (n : ℕ) (revision : Revision) → slice_get state.revisions n ≡ Some revision → IsMeta state (revision_path n) (revision_text revision)
-  package : (package : Linked) → left state.revisions package.rec.dist ≡ Some package → IsMeta state (prefix_path package.rec.dist) (prefix_text package)
+  linked : (one : Linked) → left state.revisions one.rec.dist ≡ Some one → IsMeta state (prefix_path one.rec.dist) (prefix_text one)
 
 abbrev pub HasMeta : State → List ℕ → Type 0
 HasMeta state path = (text : List ℕ) × IsMeta state path text
@@ -65,7 +65,7 @@ HasMeta state path = (text : List ℕ) × IsMeta state path text
 -- a good of a linked package whose path isn't altered
 abbrev pub IsKept : State → List (List ℕ) → Good → Type 0
 IsKept state altered good =
-    (package : Linked) × (left state.revisions package.rec.dist ≡ Some package) × Contains package.goods good × (¬ Contains altered good.path)
+    (one : Linked) × (left state.revisions one.rec.dist ≡ Some one) × Contains one.goods good × (¬ Contains altered good.path)
 
 abbrev pub HasKept : State → List (List ℕ) → List ℕ → Type 0
 HasKept state altered path = (good : Good) × IsKept state altered good × (good.path ≡ path)

@@ -26,9 +26,9 @@ good_data good =
     (member (codes "size") (number (unsigned good.size)) no_members))))
 
 abbrev pub linked_data : Linked → Data
-linked_data package =
-    object (member (codes "goods") (array (items_of (map good_data package.goods)))
-    (member (codes "record") (record_data package.rec) no_members))
+linked_data one =
+    object (member (codes "goods") (array (items_of (map good_data one.goods)))
+    (member (codes "record") (record_data one.rec) no_members))
 
 -- texts, in their order
 abbrev pub texts_data : List (List ℕ) → Items
@@ -65,24 +65,24 @@ paths_data goods =
 
 -- the record's object without `dist`, with the goods
 unfoldable pub prefix_data : Linked → Data
-prefix_data package =
-    object (member (codes "build") (string package.rec.build)
-    (member (codes "build_number") (number (unsigned package.rec.build_number))
-    (member (codes "channel") (string package.rec.channel)
-    (member (codes "constrains") (array (specs_data package.rec.constrains))
-    (member (codes "depends") (array (specs_data package.rec.depends))
-    (member (codes "files") (array (texts_data (paths_of package.goods)))
-    (member (codes "fn") (string package.rec.dist)
-    (member (codes "name") (string package.rec.name)
-    (noarch_member package.rec.noarch
-    (member (codes "paths_data") (paths_data package.goods)
-    (member (codes "subdir") (string package.rec.subdir)
-    (member (codes "timestamp") (number (unsigned package.rec.timestamp))
-    (member (codes "version") (string package.rec.version) no_members)))))))))))))
+prefix_data one =
+    object (member (codes "build") (string one.rec.build)
+    (member (codes "build_number") (number (unsigned one.rec.build_number))
+    (member (codes "channel") (string one.rec.channel)
+    (member (codes "constrains") (array (specs_data one.rec.constrains))
+    (member (codes "depends") (array (specs_data one.rec.depends))
+    (member (codes "files") (array (texts_data (paths_of one.goods)))
+    (member (codes "fn") (string one.rec.dist)
+    (member (codes "name") (string one.rec.name)
+    (noarch_member one.rec.noarch
+    (member (codes "paths_data") (paths_data one.goods)
+    (member (codes "subdir") (string one.rec.subdir)
+    (member (codes "timestamp") (number (unsigned one.rec.timestamp))
+    (member (codes "version") (string one.rec.version) no_members)))))))))))))
 
 -- the text of `conda-meta/<dist>.json`
 abbrev pub prefix_text : Linked → List ℕ
-prefix_text package = compact_text (prefix_data package)
+prefix_text one = compact_text (prefix_data one)
 
 -- ---- what a prefix record keeps of a package
 
@@ -96,4 +96,4 @@ abbrev pub kept_good : Good → Good
 kept_good good = record { path = good.path; kind = kept_kind good.kind; size = good.size; digest = good.digest }
 
 abbrev pub kept_package : Linked → Linked
-kept_package package = record { rec = package.rec; goods = map kept_good package.goods }
+kept_package one = record { rec = one.rec; goods = map kept_good one.goods }

@@ -1,6 +1,6 @@
 use conda_base::Copied;
 use conda_record::RecordField;
-use std::alloc::AllocError;
+use std::alloc::{AllocError, AllocFailed};
 use thiserror::Error;
 
 /// What is wrong with a meta file: the first of these, in the order of its reader.
@@ -84,6 +84,17 @@ impl From<AllocError> for FieldErr {
     ghost from_gives = { λ _ e. e ≡ FieldErr.Memory };
 
     fn from(_: AllocError) -> FieldErr {
+        FieldErr::Memory
+    }
+}
+
+impl<T: Drop> From<AllocFailed<T>> for FieldErr {
+    ghost use Rattle.std.specs.Prelude.{◌≡◌};
+    ghost use Rattle.conda_meta.specs.declared.error.FieldErr.{FieldErr};
+
+    ghost from_gives = { λ _ e. e ≡ FieldErr.Memory };
+
+    fn from(_: AllocFailed<T>) -> FieldErr {
         FieldErr::Memory
     }
 }

@@ -107,6 +107,7 @@ fn read_good(alloc: Global, value: &Value) -> Result<Good, FieldErr>
     })
 }
 
+#[tactic(auto, using(crate::proofs::LoopLemmas::good_more, crate::proofs::LoopLemmas::good_wrong))]
 /// The goods that elements are, in their order.
 fn read_all(alloc: Global, elements: &[Value]) -> Result<Vec<Good>, FieldErr>
     ensures { Gives field_fault_of (result_map_both (λ goods. goods.items) (λ e. e) result)

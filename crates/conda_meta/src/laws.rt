@@ -14,8 +14,8 @@ use conda_record::record_laws;
 pub fn meta_laws()
     ensures revision { (value : Data) (revision : Revision) →
         (revision_of value ≡ Ok revision) ↔ IsRevision value revision }
-    ensures prefix { (value : Data) (package : Linked) →
-        (prefix_of value ≡ Ok package) ↔ IsPrefixRecord value package }
+    ensures prefix { (value : Data) (linked : Linked) →
+        (prefix_of value ≡ Ok linked) ↔ IsPrefixRecord value linked }
     ensures good { (value : Data) (revision : Revision) →
         IsRevision value revision → IsGoodRevision revision }
 {

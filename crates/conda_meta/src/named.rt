@@ -31,7 +31,7 @@ impl Named for Good {
 }
 
 impl Named for Linked {
-    ghost name = { λ package. package.rec.dist };
+    ghost name = { λ linked. linked.rec.dist };
 
     fn name(&self) -> &str {
         self.rec.dist.text()

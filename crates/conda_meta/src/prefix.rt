@@ -34,6 +34,7 @@ fn read_file(alloc: Global, element: &Value) -> Result<RelPath, FieldErr>
     }
 }
 
+#[tactic(auto, using(crate::proofs::LoopLemmas::file_more, crate::proofs::LoopLemmas::file_wrong))]
 /// The paths that elements are, in their order.
 fn read_files(alloc: Global, elements: &[Value]) -> Result<Vec<RelPath>, FieldErr>
     ensures { Gives field_fault_of (result_map_both (λ files. files.items) (λ e. e) result)
@@ -120,6 +121,10 @@ fn read_placed(path: &RelPath, value: &Value) -> Result<Good, FieldErr>
     })
 }
 
+#[tactic(auto, using(
+    crate::proofs::LoopLemmas::placed_more,
+    crate::proofs::LoopLemmas::placed_wrong,
+))]
 /// The goods at paths, of which the elements speak one by one.
 fn read_all(alloc: Global, files: &[RelPath], elements: &[Value]) -> Result<Vec<Good>, FieldErr>
     ensures { Gives field_fault_of (result_map_both (λ goods. goods.items) (λ e. e) result)

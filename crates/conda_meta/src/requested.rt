@@ -48,6 +48,7 @@ fn requested_spec(alloc: Global, element: &Value) -> Result<Spec, FieldErr>
     }
 }
 
+#[tactic(auto, using(crate::proofs::LoopLemmas::spec_more, crate::proofs::LoopLemmas::spec_wrong))]
 /// The specifications that elements are, in their order.
 fn read_all(alloc: Global, elements: &[Value]) -> Result<Rows<Spec>, FieldErr>
     ensures { Gives field_fault_of result

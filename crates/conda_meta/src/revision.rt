@@ -66,6 +66,10 @@ fn read_linked(alloc: Global, value: &Value) -> Result<Linked, FieldErr>
     Ok(Linked { rec, goods })
 }
 
+#[tactic(auto, using(
+    crate::proofs::LoopLemmas::linked_more,
+    crate::proofs::LoopLemmas::linked_wrong,
+))]
 /// The packages that elements are, in their order.
 fn read_all(alloc: Global, elements: &[Value]) -> Result<Rows<Linked>, FieldErr>
     ensures { Gives field_fault_of result
@@ -124,6 +128,7 @@ fn unlinked_dist(alloc: Global, element: &Value) -> Result<Dist, FieldErr>
     }
 }
 
+#[tactic(auto, using(crate::proofs::LoopLemmas::dist_more, crate::proofs::LoopLemmas::dist_wrong))]
 /// The dists that elements are, in their order.
 fn read_dists(alloc: Global, elements: &[Value]) -> Result<Rows<Dist>, FieldErr>
     ensures { Gives field_fault_of result

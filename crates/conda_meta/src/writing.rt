@@ -111,11 +111,11 @@ fn record_value(alloc: Global, rec: &PkgRecord) -> Result<Value, AllocError> {
 }
 
 /// A package in a revision.
-fn linked_value(alloc: Global, package: &Linked) -> Result<Value, AllocError>
-    ensures { IfOk result (λ value. view value ≡ texts.linked_data package.now) }
+fn linked_value(alloc: Global, linked: &Linked) -> Result<Value, AllocError>
+    ensures { IfOk result (λ value. view value ≡ texts.linked_data linked.now) }
 {
-    let goods = goods_value(alloc, package.goods.list())?;
-    let inner = record_value(alloc, &package.rec)?;
+    let goods = goods_value(alloc, linked.goods.list())?;
+    let inner = record_value(alloc, &linked.rec)?;
     let mut members = Map::new(alloc);
     put(&mut members, alloc, "goods", Value::Array(goods))?;
     put(&mut members, alloc, "record", inner)?;
@@ -125,8 +125,8 @@ fn linked_value(alloc: Global, package: &Linked) -> Result<Value, AllocError>
 /// The packages of a revision.
 fn all_linked(alloc: Global, linked: &[Linked]) -> Result<Vec<Value>, AllocError> {
     let mut list = Vec::with_capacity(alloc, linked.len())?;
-    for package in linked {
-        list.push(linked_value(alloc, package)?)?;
+    for one in linked {
+        list.push(linked_value(alloc, one)?)?;
     }
     Ok(list)
 }
@@ -230,13 +230,13 @@ fn put_noarch(alloc: Global, members: &mut Members, noarch: Noarch) -> Result<()
 }
 
 /// The object of a package in a prefix.
-pub fn prefix_value(alloc: Global, package: &Linked) -> Result<Value, AllocError>
-    ensures { IfOk result (λ value. view value ≡ texts.prefix_data package.now) }
+pub fn prefix_value(alloc: Global, linked: &Linked) -> Result<Value, AllocError>
+    ensures { IfOk result (λ value. view value ≡ texts.prefix_data linked.now) }
 {
-    let files = files_value(alloc, package.goods.list())?;
-    let placed = paths_data_value(alloc, package.goods.list())?;
-    let mut members = record_members(alloc, &package.rec)?;
-    put_noarch(alloc, &mut members, package.rec.noarch)?;
+    let files = files_value(alloc, linked.goods.list())?;
+    let placed = paths_data_value(alloc, linked.goods.list())?;
+    let mut members = record_members(alloc, &linked.rec)?;
+    put_noarch(alloc, &mut members, linked.rec.noarch)?;
     put(&mut members, alloc, "files", Value::Array(files))?;
     put(&mut members, alloc, "paths_data", placed)?;
     Ok(Value::Object(members))

@@ -1,0 +1,10 @@
+use Rattle.std.specs.Prelude.{◌≡◌, drop}
+use Rattle.serde_json.specs.View.{items_view}
+use Rattle.conda_json.specs.Fields.{each_from, read_on}
+use Rattle.conda_meta.specs.Reading.{good_read}
+use Rattle.conda_meta.proofs.good.read_all.Given as goal
+
+abbrev pub invariant-loop-element : goal.invariant-loop-element
+invariant-loop-element l =
+    read_on l.goods.items (each_from l.element-index (λ at. good_read) (items_view (drop l.element-index l.elements)))
+    ≡ each_from 0 (λ at. good_read) (items_view l.elements)
