@@ -1,12 +1,14 @@
 -- The texts of the meta files: compact JSON, the keys of each object ascending.
 use Rattle.std.specs.Prelude.{ℕ, List, codes, map}
 use Rattle.hex.specs.Hex.{encode_lower}
-use Rattle.serde_json.specs.Data.{Data, number, string, array, object, unsigned, Items, Members, no_members, member}
+use Rattle.serde_json.specs.Data.{Data, number, string, array, object, unsigned, Items, Members, no_members, member, put}
 use Rattle.serde_json.specs.View.{items_of}
 use Rattle.serde_json.specs.Written.{compact_text}
 use Rattle.conda_path.specs.declared.values.Good.{Good}
 use Rattle.conda_path.specs.declared.values.Kind.{Kind}
 use Rattle.conda_record.specs.Records.{noarch_member, record_data, specs_data}
+use Rattle.conda_record.specs.declared.noarch.Noarch.{Noarch}
+use Rattle.conda_record.specs.declared.pkg_record.PkgRecord.{PkgRecord}
 use Rattle.conda_goods.specs.Goods.{paths_of}
 use Rattle.conda_meta.specs.declared.linked.Linked.{Linked}
 use Rattle.conda_meta.specs.declared.revision.Revision.{Revision}
@@ -63,10 +65,30 @@ paths_data goods =
     object (member (codes "paths") (array (items_of (map placed_data goods)))
     (member (codes "paths_version") (number (unsigned 1)) no_members))
 
--- the record's object without `dist`, with the goods
-unfoldable pub prefix_data : Linked → Data
-prefix_data one =
-    object (member (codes "build") (string one.rec.build)
+-- the members of the record's object but for `dist` and `noarch`
+abbrev pub plain_members : PkgRecord → Members
+plain_members rec =
+    member (codes "build") (string rec.build)
+    (member (codes "build_number") (number (unsigned rec.build_number))
+    (member (codes "channel") (string rec.channel)
+    (member (codes "constrains") (array (specs_data rec.constrains))
+    (member (codes "depends") (array (specs_data rec.depends))
+    (member (codes "fn") (string rec.dist)
+    (member (codes "name") (string rec.name)
+    (member (codes "subdir") (string rec.subdir)
+    (member (codes "timestamp") (number (unsigned rec.timestamp))
+    (member (codes "version") (string rec.version) no_members)))))))))
+
+-- members with what `noarch` says, if it says something
+abbrev pub with_noarch : Noarch → Members → Members
+with_noarch Noarch.No members = members
+with_noarch Noarch.Generic members = put (codes "noarch") (string (codes "generic")) members
+with_noarch Noarch.Python members = put (codes "noarch") (string (codes "python")) members
+
+-- the members of the record's object without `dist`, with this said of `noarch`, and the goods
+abbrev pub prefix_members : Noarch → Linked → Members
+prefix_members noarch one =
+    member (codes "build") (string one.rec.build)
     (member (codes "build_number") (number (unsigned one.rec.build_number))
     (member (codes "channel") (string one.rec.channel)
     (member (codes "constrains") (array (specs_data one.rec.constrains))
@@ -74,11 +96,14 @@ prefix_data one =
     (member (codes "files") (array (texts_data (paths_of one.goods)))
     (member (codes "fn") (string one.rec.dist)
     (member (codes "name") (string one.rec.name)
-    (noarch_member one.rec.noarch
+    (noarch_member noarch
     (member (codes "paths_data") (paths_data one.goods)
     (member (codes "subdir") (string one.rec.subdir)
     (member (codes "timestamp") (number (unsigned one.rec.timestamp))
-    (member (codes "version") (string one.rec.version) no_members)))))))))))))
+    (member (codes "version") (string one.rec.version) no_members))))))))))))
+
+unfoldable pub prefix_data : Linked → Data
+prefix_data one = object (prefix_members one.rec.noarch one)
 
 -- the text of `conda-meta/<dist>.json`
 abbrev pub prefix_text : Linked → List ℕ

@@ -5,8 +5,7 @@ ghost use Rattle.conda_meta.specs.Rules.{IsGoodRevision, IsPrefixRecord, IsRevis
 ghost use Rattle.conda_meta.specs.declared.linked.Linked.{Linked};
 ghost use Rattle.conda_meta.specs.declared.revision.Revision.{Revision};
 
-use conda_base::ascending_laws;
-use conda_path::{dist_laws, path_laws};
+use conda_path::{dist_laws, ending_laws, path_laws};
 use conda_record::record_laws;
 
 /// What is read of an object is the revision, or the package of a prefix, that it is: each field in
@@ -19,8 +18,8 @@ pub fn meta_laws()
     ensures good { (value : Data) (revision : Revision) →
         IsRevision value revision → IsGoodRevision revision }
 {
-    ascending_laws();
     dist_laws();
+    ending_laws();
     path_laws();
     conda_spec::grammar_laws();
     record_laws();

@@ -66,11 +66,12 @@ fn read_all(alloc: Global, elements: &[Value]) -> Result<Rows<Spec>, FieldErr>
 fn is_not_behind(alloc: Global, one: &Spec, other: &Spec) -> Result<bool, AllocError>
     ensures { IfOk result (λ so. so ≡ reading.is_not_behind one.now other.now) }
 {
-    if one.name() != other.name() {
-        return Ok(one.name() < other.name());
-    }
     match (one.text(alloc), other.text(alloc)) {
-        (Ok(first), Ok(second)) => Ok(first.as_str() <= second.as_str()),
+        (Ok(first), Ok(second)) => {
+            let names = one.name().cmp(other.name());
+            let texts = first.as_str().cmp(second.as_str());
+            Ok(names.then(texts).is_le())
+        }
         _ => Err(AllocError),
     }
 }

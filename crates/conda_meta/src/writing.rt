@@ -1,9 +1,12 @@
-ghost use Rattle.std.specs.Prelude.{◌≡◌, IfOk, OnOk, Ok};
+ghost use Rattle.std.specs.Prelude.{◌≡◌, IfOk, OnOk, map};
 ghost use Rattle.std.specs.List.{AllByRecursion};
 ghost use Rattle.serde_json.specs.Data.{array, number, put as with_member, string, unsigned};
 ghost use Rattle.serde_json.specs.View.{items_view, members_view, view};
-ghost use Rattle.conda_record.specs.Records.{specs_data};
+ghost use Rattle.conda_path.specs.Dists.{IsDist};
+ghost use Rattle.conda_record.specs.Records.{record_data, spec_data, specs_data};
 ghost use Rattle.conda_record.specs.Rules.{ReadsBack};
+ghost use Rattle.conda_goods.specs.Goods.{paths_of};
+ghost use Rattle.conda_meta.specs.Back.{AreWritten, IsWritten, LinkedBack, RecordBack};
 ghost use Rattle.conda_meta.specs.Texts as texts;
 
 use crate::linked::Linked;
@@ -49,7 +52,10 @@ fn put_specs(
 }
 
 /// The normal form of a specification.
-fn spec_value(alloc: Global, spec: &Spec) -> Result<Value, AllocError> {
+fn spec_value(alloc: Global, spec: &Spec) -> Result<Value, AllocError>
+    ensures value { IfOk result (λ value. view value ≡ spec_data spec.now) }
+    ensures again { OnOk result (ReadsBack spec.now) }
+{
     match spec.text(alloc) {
         Ok(text) => Ok(Value::String(text)),
         Err(_) => Err(AllocError),
@@ -82,7 +88,8 @@ fn kind_name(kind: Kind) -> &'static str
 
 /// A good in a revision.
 fn good_value(alloc: Global, good: &Good) -> Result<Value, AllocError>
-    ensures { IfOk result (λ value. view value ≡ texts.good_data good.now) }
+    ensures value { IfOk result (λ value. view value ≡ texts.good_data good.now) }
+    ensures again { OnOk result (IsWritten good.now) }
 {
     let digits = hex::encode(alloc, good.digest.bytes)?;
     let mut members = Map::new(alloc);
@@ -94,7 +101,10 @@ fn good_value(alloc: Global, good: &Good) -> Result<Value, AllocError>
 }
 
 /// The goods of a package in a revision.
-fn goods_value(alloc: Global, goods: &[Good]) -> Result<Vec<Value>, AllocError> {
+fn goods_value(alloc: Global, goods: &[Good]) -> Result<Vec<Value>, AllocError>
+    ensures list { IfOk result (λ list. map view list.items ≡ map texts.good_data goods.now) }
+    ensures again { OnOk result (AllByRecursion IsWritten goods.now) }
+{
     let mut list = Vec::with_capacity(alloc, goods.len())?;
     for good in goods {
         list.push(good_value(alloc, good)?)?;
@@ -103,7 +113,10 @@ fn goods_value(alloc: Global, goods: &[Good]) -> Result<Vec<Value>, AllocError> 
 }
 
 /// The object of a record.
-fn record_value(alloc: Global, rec: &PkgRecord) -> Result<Value, AllocError> {
+fn record_value(alloc: Global, rec: &PkgRecord) -> Result<Value, AllocError>
+    ensures value { IfOk result (λ value. view value ≡ record_data rec.now) }
+    ensures again { OnOk result (RecordBack rec.now) }
+{
     match rec.value(alloc) {
         Ok(value) => Ok(value),
         Err(_) => Err(AllocError),
@@ -112,7 +125,8 @@ fn record_value(alloc: Global, rec: &PkgRecord) -> Result<Value, AllocError> {
 
 /// A package in a revision.
 fn linked_value(alloc: Global, linked: &Linked) -> Result<Value, AllocError>
-    ensures { IfOk result (λ value. view value ≡ texts.linked_data linked.now) }
+    ensures value { IfOk result (λ value. view value ≡ texts.linked_data linked.now) }
+    ensures again { OnOk result (LinkedBack linked.now) }
 {
     let goods = goods_value(alloc, linked.goods.list())?;
     let inner = record_value(alloc, &linked.rec)?;
@@ -123,7 +137,10 @@ fn linked_value(alloc: Global, linked: &Linked) -> Result<Value, AllocError>
 }
 
 /// The packages of a revision.
-fn all_linked(alloc: Global, linked: &[Linked]) -> Result<Vec<Value>, AllocError> {
+fn all_linked(alloc: Global, linked: &[Linked]) -> Result<Vec<Value>, AllocError>
+    ensures list { IfOk result (λ list. map view list.items ≡ map texts.linked_data linked.now) }
+    ensures again { OnOk result (AllByRecursion LinkedBack linked.now) }
+{
     let mut list = Vec::with_capacity(alloc, linked.len())?;
     for one in linked {
         list.push(linked_value(alloc, one)?)?;
@@ -132,7 +149,10 @@ fn all_linked(alloc: Global, linked: &[Linked]) -> Result<Vec<Value>, AllocError
 }
 
 /// The dists of a revision.
-fn dists_value(alloc: Global, dists: &[Dist]) -> Result<Vec<Value>, AllocError> {
+fn dists_value(alloc: Global, dists: &[Dist]) -> Result<Vec<Value>, AllocError>
+    ensures list { IfOk result (λ list. map view list.items ≡ map string dists.now) }
+    ensures again { OnOk result (AllByRecursion IsDist dists.now) }
+{
     let mut list = Vec::with_capacity(alloc, dists.len())?;
     for dist in dists {
         list.push(Value::try_from_str(alloc, dist.text())?)?;
@@ -142,7 +162,10 @@ fn dists_value(alloc: Global, dists: &[Dist]) -> Result<Vec<Value>, AllocError> 
 
 /// The object of a revision.
 pub fn revision_value(alloc: Global, revision: &Revision) -> Result<Value, AllocError>
-    ensures { IfOk result (λ value. view value ≡ texts.revision_data revision.now) }
+    ensures value { IfOk result (λ value. view value ≡ texts.revision_data revision.now) }
+    ensures linked { OnOk result (AllByRecursion LinkedBack revision.now.linked) }
+    ensures requested { OnOk result (AllByRecursion ReadsBack revision.now.requested) }
+    ensures unlinked { OnOk result (AllByRecursion IsDist revision.now.unlinked) }
 {
     let linked = all_linked(alloc, revision.linked.as_slice())?;
     let unlinked = dists_value(alloc, revision.unlinked.as_slice())?;
@@ -166,7 +189,8 @@ fn type_name(kind: Kind) -> &'static str
 
 /// What `paths_data` says of a good.
 fn placed_value(alloc: Global, good: &Good) -> Result<Value, AllocError>
-    ensures { IfOk result (λ value. view value ≡ texts.placed_data good.now) }
+    ensures value { IfOk result (λ value. view value ≡ texts.placed_data good.now) }
+    ensures again { OnOk result (IsWritten good.now) }
 {
     let digits = hex::encode(alloc, good.digest.bytes)?;
     let mut members = Map::new(alloc);
@@ -178,7 +202,10 @@ fn placed_value(alloc: Global, good: &Good) -> Result<Value, AllocError>
 }
 
 /// What `paths_data` says of all goods.
-fn all_placed(alloc: Global, goods: &[Good]) -> Result<Vec<Value>, AllocError> {
+fn all_placed(alloc: Global, goods: &[Good]) -> Result<Vec<Value>, AllocError>
+    ensures list { IfOk result (λ list. map view list.items ≡ map texts.placed_data goods.now) }
+    ensures again { OnOk result (AllByRecursion IsWritten goods.now) }
+{
     let mut list = Vec::with_capacity(alloc, goods.len())?;
     for good in goods {
         list.push(placed_value(alloc, good)?)?;
@@ -187,7 +214,10 @@ fn all_placed(alloc: Global, goods: &[Good]) -> Result<Vec<Value>, AllocError> {
 }
 
 /// The object in `paths_data`.
-fn paths_data_value(alloc: Global, goods: &[Good]) -> Result<Value, AllocError> {
+fn paths_data_value(alloc: Global, goods: &[Good]) -> Result<Value, AllocError>
+    ensures value { IfOk result (λ value. view value ≡ texts.paths_data goods.now) }
+    ensures again { OnOk result (AllByRecursion IsWritten goods.now) }
+{
     let placed = all_placed(alloc, goods)?;
     let mut members = Map::new(alloc);
     put(&mut members, alloc, "paths", Value::Array(placed))?;
@@ -196,7 +226,9 @@ fn paths_data_value(alloc: Global, goods: &[Good]) -> Result<Value, AllocError> 
 }
 
 /// The paths of goods.
-fn files_value(alloc: Global, goods: &[Good]) -> Result<Vec<Value>, AllocError> {
+fn files_value(alloc: Global, goods: &[Good]) -> Result<Vec<Value>, AllocError>
+    ensures { IfOk result (λ list. map view list.items ≡ map string (paths_of goods.now)) }
+{
     let mut list = Vec::with_capacity(alloc, goods.len())?;
     for good in goods {
         list.push(Value::try_from_str(alloc, good.path.as_str())?)?;
@@ -205,7 +237,12 @@ fn files_value(alloc: Global, goods: &[Good]) -> Result<Vec<Value>, AllocError> 
 }
 
 /// The members of a record but for `dist` and `noarch`.
-fn record_members(alloc: Global, rec: &PkgRecord) -> Result<Members, AllocError> {
+fn record_members(alloc: Global, rec: &PkgRecord) -> Result<Members, AllocError>
+    ensures members { IfOk result (λ made. members_view made.entries
+        ≡ texts.plain_members rec.now) }
+    ensures depends { OnOk result (AllByRecursion ReadsBack rec.now.depends) }
+    ensures constrains { OnOk result (AllByRecursion ReadsBack rec.now.constrains) }
+{
     let mut members = Map::new(alloc);
     put_text(alloc, &mut members, "build", rec.build.as_str())?;
     put_number(alloc, &mut members, "build_number", rec.build_number)?;
@@ -221,7 +258,10 @@ fn record_members(alloc: Global, rec: &PkgRecord) -> Result<Members, AllocError>
 }
 
 /// Puts the member `noarch`, where it says something.
-fn put_noarch(alloc: Global, members: &mut Members, noarch: Noarch) -> Result<(), AllocError> {
+fn put_noarch(alloc: Global, members: &mut Members, noarch: Noarch) -> Result<(), AllocError>
+    ensures { OnOk result (members_view members.new.entries
+        ≡ texts.with_noarch noarch (members_view members.old.entries)) }
+{
     match noarch {
         Noarch::No => Ok(()),
         Noarch::Generic => put_text(alloc, members, "noarch", "generic"),
@@ -231,7 +271,10 @@ fn put_noarch(alloc: Global, members: &mut Members, noarch: Noarch) -> Result<()
 
 /// The object of a package in a prefix.
 pub fn prefix_value(alloc: Global, linked: &Linked) -> Result<Value, AllocError>
-    ensures { IfOk result (λ value. view value ≡ texts.prefix_data linked.now) }
+    ensures value { IfOk result (λ value. view value ≡ texts.prefix_data linked.now) }
+    ensures goods { OnOk result (AreWritten linked.now) }
+    ensures depends { OnOk result (AllByRecursion ReadsBack linked.now.rec.depends) }
+    ensures constrains { OnOk result (AllByRecursion ReadsBack linked.now.rec.constrains) }
 {
     let files = files_value(alloc, linked.goods.list())?;
     let placed = paths_data_value(alloc, linked.goods.list())?;

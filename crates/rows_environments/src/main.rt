@@ -2,6 +2,7 @@
 #![tactic(auto)]
 
 mod goods;
+mod meta;
 
 use conda_base::Text;
 use rows_text::{Table, print_rows};
@@ -17,7 +18,10 @@ impl Table for Environments {
         call: &str,
         arguments: &[Text],
     ) -> Result<Option<String>, AllocError> {
-        goods::answer(alloc, call, arguments)
+        match goods::answer(alloc, call, arguments)? {
+            Some(answer) => Ok(Some(answer)),
+            None => meta::answer(alloc, call, arguments),
+        }
     }
 }
 
