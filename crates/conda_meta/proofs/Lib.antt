@@ -1,3 +1,4 @@
 pub mod LoopLemmas
+pub mod GoodsLemmas
 pub mod ReadLemmas
 pub mod WriteLemmas

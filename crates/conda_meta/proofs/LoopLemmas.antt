@@ -1,5 +1,5 @@
 -- Elements read one after another.
-use Rattle.std.specs.Prelude.{◌≡◌, ℕ, ◌+◌, List, [], ◌∷◌, ◌++◌, Ok, Err}
+use Rattle.std.specs.Prelude.{◌≡◌, ℕ, ◌+◌, true, false, ◌&&◌, Option, None, Some, List, [], ◌∷◌, ◌++◌, Ok, Err}
 use Rattle.std.proofs.Common.{refl, ap, sym, ◌∙◌}
 use Rattle.std.proofs.lemmas.List.{append_assoc}
 use Rattle.serde_json.specs.Data.{Data, Items, item}
@@ -7,7 +7,7 @@ use Rattle.conda_base.specs.Reads.{Read, ◌>>=◌}
 use Rattle.conda_path.specs.declared.values.Good.{Good}
 use Rattle.conda_spec.specs.Parts.{Parts}
 use Rattle.conda_json.specs.Fields.{each_from, read_on}
-use Rattle.conda_meta.specs.Reading.{file_read, good_read, linked_read, placed_goods, placed_read, requested_spec, unlinked_dist}
+use Rattle.conda_meta.specs.Reading.{ascend, ascend_behind, file_read, follows, in_order, in_order_behind, may_follow, good_read, linked_read, placed_goods, placed_read, requested_spec, unlinked_dist}
 use Rattle.conda_meta.specs.declared.error.MetaField.{MetaField}
 use Rattle.conda_meta.specs.declared.linked.Linked.{Linked}
 
@@ -70,6 +70,30 @@ file_more = more file_read
 pub file_wrong : (made : List (List ℕ)) (at : ℕ) (value : Data) (rest : Items) (fault : MetaField) → file_read value ≡ Err fault
     → read_on made (each_from at (λ at. file_read) (item value rest)) ≡ Err fault
 file_wrong = wrong file_read
+
+-- ---- texts and specifications in order
+
+-- one more text comes behind the last one, and the others behind it
+pub ascend_one : (last : Option (List ℕ)) (text : List ℕ) (rest : List (List ℕ)) → follows last text ≡ true
+    → ascend_behind last (text ∷ rest) ≡ ascend_behind (Some text) rest
+ascend_one None text rest is = refl
+ascend_one (Some before) text rest is = ap (λ b. b && ascend (text ∷ rest)) is
+
+-- one that doesn't ends it
+pub ascend_end : (last : Option (List ℕ)) (text : List ℕ) (rest : List (List ℕ)) → follows last text ≡ false
+    → ascend_behind last (text ∷ rest) ≡ false
+ascend_end None text rest is = cc is
+ascend_end (Some before) text rest is = ap (λ b. b && ascend (text ∷ rest)) is
+
+pub order_one : (last : Option Parts) (parts : Parts) (rest : List Parts) → may_follow last parts ≡ true
+    → in_order_behind last (parts ∷ rest) ≡ in_order_behind (Some parts) rest
+order_one None parts rest is = refl
+order_one (Some before) parts rest is = ap (λ b. b && in_order (parts ∷ rest)) is
+
+pub order_end : (last : Option Parts) (parts : Parts) (rest : List Parts) → may_follow last parts ≡ false
+    → in_order_behind last (parts ∷ rest) ≡ false
+order_end None parts rest is = cc is
+order_end (Some before) parts rest is = ap (λ b. b && in_order (parts ∷ rest)) is
 
 -- ---- goods at paths
 

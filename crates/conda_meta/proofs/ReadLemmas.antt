@@ -1,5 +1,5 @@
 -- What is read of an object is the revision or the package that it is, and each of these is read.
-use Rattle.std.specs.Prelude.{◌≡◌, ◌↔◌, ℕ, ◌+◌, ◌⊎◌, Bool, true, false, ◌&&◌, ◌==◌, not, is_some, if◌then◌else◌, List, [], ◌∷◌, codes, map, Option, None, Some, option_and_then, Ok, Err}
+use Rattle.std.specs.Prelude.{◌≡◌, ◌↔◌, ℕ, ◌+◌, ◌⊎◌, Bool, true, false, ◌&&◌, ◌||◌, ◌==◌, not, is_some, if◌then◌else◌, List, [], ◌∷◌, codes, map, Option, None, Some, option_and_then, Ok, Err}
 use Rattle.std.proofs.Common.{inl, inr, refl, ap, sym, ◌∙◌, subst}
 use Rattle.std.proofs.lemmas.Bool.{eqb-true}
 use Rattle.std.proofs.lemmas.Bool.Decides.{Decides-eqb}
@@ -274,14 +274,7 @@ dist_at_back law field name value dist is good = ap (λ o. ok_or o field >>= dis
 
 no_record : (r : Read PkgRecord RecordField) (pkg : PkgRecord) → subdir_at_fault r ≡ Ok pkg → ⊥
 no_record (Ok x) pkg e = cc e
-no_record (Err RecordField.Name) pkg e = cc e
-no_record (Err RecordField.Version) pkg e = cc e
-no_record (Err RecordField.Build) pkg e = cc e
-no_record (Err RecordField.BuildNumber) pkg e = cc e
-no_record (Err RecordField.Depends) pkg e = cc e
-no_record (Err RecordField.Constrains) pkg e = cc e
-no_record (Err RecordField.Subdir) pkg e = cc e
-no_record (Err RecordField.Fn) pkg e = cc e
+no_record (Err field) pkg e = cc e
 
 record_in_ok : (value : Data) (dist channel : List ℕ) (place : Option (List ℕ)) (pkg : PkgRecord) → record_in value dist channel place ≡ Ok pkg
     → (subdir : List ℕ) × (place ≡ Some subdir) × (record_read value dist channel subdir ≡ Ok pkg)
@@ -292,22 +285,19 @@ own : {A : Type 0} (r : Read A RecordField) (x : A) → in_record r ≡ Ok x →
 own (Ok y) x e = ap Ok (same y x e)
 own (Err field) x e = cc e
 
-either : (a b : Bool) (text : List ℕ) (subdir : List ℕ) → (if (if a then true else b) then Some text else None) ≡ Some subdir → ((a ≡ true) ⊎ (b ≡ true)) × (text ≡ subdir)
-either true b text subdir e = (inl refl, same_some text subdir e)
-either false true text subdir e = (inr refl, same_some text subdir e)
-either false false text subdir e = cc e
+tested : (a b : Bool) (text subdir : List ℕ) → (if a || b then Some text else None) ≡ Some subdir → ((a ≡ true) ⊎ (b ≡ true)) × (text ≡ subdir)
+tested true b text subdir e = (inl refl, same_some text subdir e)
+tested false true text subdir e = (inr refl, same_some text subdir e)
+tested false false text subdir e = cc e
+
+one_of : (text : List ℕ) → ((is_text text (codes "linux-64") ≡ true) ⊎ (is_text text (codes "noarch") ≡ true)) → IsSubdir text
+one_of text (inl is) = inl ((same_text text (codes "linux-64")).0 is)
+one_of text (inr is) = inr ((same_text text (codes "noarch")).0 is)
 
 subdir_named : (text subdir : List ℕ) → if_subdir text ≡ Some subdir → IsSubdir subdir × (text ≡ subdir)
-subdir_named text subdir e = by (is_text text (codes "linux-64")) (is_text text (codes "noarch")) refl refl e
-  where
-    by : (a b : Bool) → is_text text (codes "linux-64") ≡ a → is_text text (codes "noarch") ≡ b → if_subdir text ≡ Some subdir → IsSubdir subdir × (text ≡ subdir)
-    by true b p q e =
-        let is : text ≡ subdir = same_some text subdir (sym (ap (λ c. if c then Some text else None) (rw p refl)) ∙ e) in
-        (subst IsSubdir is (inl ((same_text text (codes "linux-64")).0 p)), is)
-    by false true p q e =
-        let is : text ≡ subdir = same_some text subdir (sym (ap (λ c. if c then Some text else None) (rw (p, q) refl)) ∙ e) in
-        (subst IsSubdir is (inr ((same_text text (codes "noarch")).0 q)), is)
-    by false false p q e = absurd (let none : None {List ℕ} ≡ Some subdir = rw (p, q) at e in cc none)
+subdir_named text subdir e =
+    let h = tested (is_text text (codes "linux-64")) (is_text text (codes "noarch")) text subdir e in
+    (subst IsSubdir h.1 (one_of text h.0), h.1)
 
 subdir_back : (subdir : List ℕ) → IsSubdir subdir → if_subdir subdir ≡ Some subdir
 subdir_back subdir (inl e) = subst (λ s. if_subdir s ≡ Some s) (sym e) refl
@@ -317,12 +307,14 @@ none_is : {A : Type 0} (o : Option A) → is_some o ≡ false → o ≡ None
 none_is None e = refl
 none_is (Some x) e = cc e
 
+nothing : (dist : List ℕ) → None ≡ Some dist → ⊥
+nothing dist e = cc e
+
 -- a dist is the name of no package file, so it names itself alone
 names_itself : Laws → (text dist : List ℕ) → IsDist text → NamesDist text dist → text ≡ dist
 names_itself law text dist is (inl e) = e
 names_itself law text dist is (inr file) =
-    let none : None {List ℕ} ≡ Some dist = sym (none_is (cut_ending text) is.no_file) ∙ (law.ending text dist).1 file in
-    absurd (cc none)
+    absurd (nothing dist (sym (none_is (cut_ending text) is.no_file) ∙ (law.ending text dist).1 file))
 
 record_at_ok : Laws → (field : MetaField) (name : List ℕ) (value : Data) (pkg : PkgRecord) → record_at field name value ≡ Ok pkg → IsRecordAt name value pkg
 record_at_ok law field name value pkg e =
@@ -420,7 +412,7 @@ list_back law value linked elements is are up =
 
 -- ---- requested specifications
 
-neither : (a b : Bool) → (if a then true else b) ≡ false → (a ≡ false) × (b ≡ false)
+neither : (a b : Bool) → (a || b) ≡ false → (a ≡ false) × (b ≡ false)
 neither true b e = cc e
 neither false b e = (refl, e)
 
@@ -431,8 +423,8 @@ free c (b ∷ rest) e =
     (both.0, free c rest both.1)
 
 free_back : (c : ℕ) (text : List ℕ) → IsFreeOf c text → list_any (is_byte c) text ≡ false
-free_back c [] free = refl
-free_back c (b ∷ rest) free = ap (λ x. if x then true else list_any (is_byte c) rest) free.0 ∙ free_back c rest free.1
+free_back c [] is = refl
+free_back c (b ∷ rest) is = ap (λ x. x || list_any (is_byte c) rest) is.0 ∙ free_back c rest is.1
 
 not_so : (b : Bool) → not b ≡ true → b ≡ false
 not_so true e = cc e
@@ -454,14 +446,14 @@ spec_ok law value parts e =
     subst (IsRequested value) c.1 made
 
 plain_back : (parts : Parts) → HasNoGlob parts → is_plain_form (spec_text parts) parts ≡ true
-plain_back parts free =
-    ap (λ b. not b && is_text (spec_text parts) (spec_text parts)) (free_back star parts.name free)
+plain_back parts is =
+    ap (λ b. not b && is_text (spec_text parts) (spec_text parts)) (free_back star parts.name is)
     ∙ (same_text (spec_text parts) (spec_text parts)).1 refl
 
 spec_back : Laws → (value : Data) (parts : Parts) → IsRequested value parts → requested_spec value ≡ Ok parts
 spec_back law value parts h =
     ap (λ o. ok_or o MetaField.Requested >>= (λ text. or_fault (spec_read (trimmed text)) MetaField.Requested >>= (λ parts. where_so (is_plain_form text parts) MetaField.Requested parts))) h.written
-    ∙ ap (λ r. or_fault r MetaField.Requested >>= (λ parts. where_so (is_plain_form (spec_text parts) parts) MetaField.Requested parts)) (law.all (trimmed (spec_text parts)) parts h.spec)
+    ∙ ap (λ r. or_fault r MetaField.Requested >>= (λ read. where_so (is_plain_form (spec_text parts) read) MetaField.Requested read)) (law.all (trimmed (spec_text parts)) parts h.spec)
     ∙ so_back (is_plain_form (spec_text parts) parts) MetaField.Requested parts (plain_back parts h.no_glob)
 
 requested_ok : Laws → (value : Data) (specs : List Parts) → requested_list value ≡ Ok specs
@@ -682,7 +674,7 @@ placed_back value good h =
 
 all_placed_ok : (paths : List (List ℕ)) (items : Items) (goods : List Good) → placed_goods paths items ≡ Ok goods → Are IsPlaced items goods × (paths_of goods ≡ paths)
 all_placed_ok [] no_items goods e =
-    let none : [] {Good} ≡ goods = same [] goods e in
+    let none = same [] goods e in
     (subst (Are IsPlaced no_items) none tt, ap paths_of (sym none))
 all_placed_ok [] (item value rest) goods e = cc e
 all_placed_ok (path ∷ paths) no_items goods e = cc e

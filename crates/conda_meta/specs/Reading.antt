@@ -64,6 +64,16 @@ abbrev pub ascend : List (List ℕ) → Bool
 ascend [] = true
 ascend (text ∷ rest) = comes_first text rest && ascend rest
 
+-- the text comes behind another one, if there is one
+abbrev pub follows : Option (List ℕ) → List ℕ → Bool
+follows None text = true
+follows (Some last) text = is_lt (slice_cmp nat_cmp last text)
+
+-- for the loop that tests it: texts behind another one ascend with it
+abbrev pub ascend_behind : Option (List ℕ) → List (List ℕ) → Bool
+ascend_behind None texts = ascend texts
+ascend_behind (Some last) texts = ascend (last ∷ texts)
+
 -- ---- goods
 
 abbrev pub kind_named : List ℕ → Option Kind
@@ -130,10 +140,13 @@ abbrev pub subdir_at : Data → Option (List ℕ)
 subdir_at value = option_and_then if_subdir (text_at value (codes "subdir"))
 
 -- what is wrong before the subdir, or else that the subdir is: only the dist is tested behind it
+abbrev pub subdir_first : RecordField → RecordField
+subdir_first RecordField.Fn = RecordField.Subdir
+subdir_first field = field
+
 abbrev pub subdir_at_fault : Read PkgRecord RecordField → Read PkgRecord RecordField
 subdir_at_fault (Ok pkg) = Err RecordField.Subdir
-subdir_at_fault (Err RecordField.Fn) = Err RecordField.Subdir
-subdir_at_fault (Err field) = Err field
+subdir_at_fault (Err field) = Err (subdir_first field)
 
 -- the record of this dist in this channel, in a folder, if one is named
 abbrev pub record_in : Data → List ℕ → List ℕ → Option (List ℕ) → Read PkgRecord RecordField
@@ -201,6 +214,16 @@ fits_front parts (next ∷ rest) = is_not_behind parts next
 abbrev pub in_order : List Parts → Bool
 in_order [] = true
 in_order (parts ∷ rest) = fits_front parts rest && in_order rest
+
+-- a specification doesn't come before another one, if there is one
+abbrev pub may_follow : Option Parts → Parts → Bool
+may_follow None parts = true
+may_follow (Some last) parts = is_not_behind last parts
+
+-- for the loop that tests it: specifications behind another one are in order with it
+abbrev pub in_order_behind : Option Parts → List Parts → Bool
+in_order_behind None specs = in_order specs
+in_order_behind (Some last) specs = in_order (last ∷ specs)
 
 abbrev pub requested_list : Data → Read (List Parts) MetaField
 requested_list value = do

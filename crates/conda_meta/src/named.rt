@@ -1,4 +1,4 @@
-ghost use Rattle.std.specs.Prelude.{◌≡◌, map};
+ghost use Rattle.std.specs.Prelude.{◌≡◌, map, option_copied};
 ghost use Rattle.conda_meta.specs.Reading as reading;
 
 use crate::linked::Linked;
@@ -38,6 +38,17 @@ impl Named for Linked {
     }
 }
 
+/// Whether a text comes behind another one by bytes, if there is one.
+fn follows(last: Option<&str>, text: &str) -> bool
+    ensures { result ≡ reading.follows (option_copied last.entry) text.now }
+{
+    match last {
+        Some(last) => last < text,
+        None => true,
+    }
+}
+
+#[tactic(auto, using(crate::proofs::LoopLemmas::ascend_one, crate::proofs::LoopLemmas::ascend_end))]
 /// Whether the names ascend by bytes, so that none stands twice.
 pub fn ascend<T: Named>(items: &[T]) -> bool
     ensures { result ≡ reading.ascend (map T.name items.now) }
@@ -45,7 +56,7 @@ pub fn ascend<T: Named>(items: &[T]) -> bool
     let mut last = None;
     for item in items {
         let name = item.name();
-        if let Some(last) = last && name <= last {
+        if !follows(last, name) {
             return false;
         }
         last = Some(name);

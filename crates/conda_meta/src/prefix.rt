@@ -11,6 +11,7 @@ ghost use Rattle.conda_meta.specs.declared.error.MetaErr.{MetaErr};
 
 use crate::error::{FieldErr, MetaErr, MetaField};
 use crate::good::{digest_field, good_path, sorted};
+use crate::laws::meta_laws;
 use crate::linked::Linked;
 use crate::named::ascend;
 use crate::record_field::record_of;
@@ -19,7 +20,7 @@ use crate::writing::prefix_value;
 use conda_base::Copied;
 use conda_json::{Value, compact, list_of, number_of, object_field, text_of};
 use conda_path::{Good, Kind, RelPath};
-use conda_record::RecordField;
+use conda_record::{RecordField, record_laws};
 use std::alloc::Global;
 
 /// The path that an element of `files` is.
@@ -141,10 +142,10 @@ fn read_all(alloc: Global, files: &[RelPath], elements: &[Value]) -> Result<Vec<
         let good = read_placed(path, element)?;
         goods.push(good)?;
     }
-    if elements.len() > files.len() {
-        return Err(bad);
+    match elements.get(files.len()) {
+        Some(_) => Err(bad),
+        None => Ok(goods),
     }
-    Ok(goods)
 }
 
 /// The elements of `paths_data`, whose version is 1.
@@ -226,6 +227,9 @@ pub fn prefix_text(alloc: Global, linked: &Linked) -> Result<Vec<u8>, MetaErr>
         reading.prefix_read text.items ≡ Ok (texts.kept_package linked.now)) }
     ensures err { OnErr result (result ≡ Err MetaErr.Memory) }
 {
+    meta_laws();
+    conda_spec::grammar_laws();
+    record_laws();
     let value = prefix_value(alloc, linked)?;
     match compact(alloc, &value) {
         Ok(text) => Ok(text),

@@ -1,9 +1,10 @@
-ghost use Rattle.std.specs.Prelude.{◌≡◌, MatchOption, None, Some};
+ghost use Rattle.std.specs.Prelude.{◌≡◌, [], MatchOption, None, Some};
 ghost use Rattle.std.specs.List.{list_all};
 ghost use Rattle.std.specs.Result.{result_map_both};
 ghost use Rattle.serde_json.specs.View.{view};
 ghost use Rattle.conda_base.specs.Reads.{Gives};
 ghost use Rattle.conda_words.specs.Values as values;
+ghost use Rattle.conda_record.specs.Records.{record_read};
 ghost use Rattle.conda_meta.specs.Reading as reading;
 ghost use Rattle.conda_meta.specs.Reading.{field_fault_of};
 
@@ -96,7 +97,10 @@ fn named_record(
     dist: &str,
     channel: &str,
     subdir: &str,
-) -> Result<PkgRecord, FieldErr> {
+) -> Result<PkgRecord, FieldErr>
+    ensures { Gives field_fault_of result (reading.in_record
+        (record_read (view value.now) dist.now channel.now subdir.now)) }
+{
     match PkgRecord::read(alloc, value, dist, channel, subdir) {
         Ok(rec) => Ok(rec),
         Err(RecordErr::BadRecord { field }) => Err(FieldErr::Bad {
@@ -106,25 +110,34 @@ fn named_record(
     }
 }
 
-/// What is wrong with a record whose folder isn't named: what is wrong before the subdir, or else
-/// that.
+/// What is wrong where the folder isn't named: what is wrong before that, or else that.
+fn subdir_first(field: RecordField) -> RecordField
+    ensures { result ≡ reading.subdir_first field }
+{
+    match field {
+        RecordField::Fn => RecordField::Subdir,
+        field => field,
+    }
+}
+
+/// What is wrong with a record whose folder isn't named.
 fn unnamed_record(
     alloc: Global,
     value: &Value,
     dist: &str,
     channel: &str,
-) -> Result<PkgRecord, FieldErr> {
-    match PkgRecord::read(alloc, value, dist, channel, "") {
-        Err(RecordErr::Memory) => Err(FieldErr::Memory),
-        Err(RecordErr::BadRecord { field }) if field != RecordField::Fn => Err(FieldErr::Bad {
-            field: MetaField::InRecord { field },
-        }),
-        _ => Err(FieldErr::Bad {
-            field: MetaField::InRecord {
-                field: RecordField::Subdir,
-            },
-        }),
-    }
+) -> Result<PkgRecord, FieldErr>
+    ensures { Gives field_fault_of result (reading.in_record
+        (reading.subdir_at_fault (record_read (view value.now) dist.now channel.now []))) }
+{
+    let field = match PkgRecord::read(alloc, value, dist, channel, "") {
+        Ok(_) => RecordField::Subdir,
+        Err(RecordErr::BadRecord { field }) => subdir_first(field),
+        Err(RecordErr::Memory) => return Err(FieldErr::Memory),
+    };
+    Err(FieldErr::Bad {
+        field: MetaField::InRecord { field },
+    })
 }
 
 /// The record that an object is, whose dist stands in the named field.

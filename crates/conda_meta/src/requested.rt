@@ -1,4 +1,4 @@
-ghost use Rattle.std.specs.Prelude.{◌≡◌, IfOk};
+ghost use Rattle.std.specs.Prelude.{◌≡◌, IfOk, option_copied};
 ghost use Rattle.serde_json.specs.View.{items_view, view};
 ghost use Rattle.conda_base.specs.Reads.{Gives};
 ghost use Rattle.conda_json.specs.Fields.{each_from};
@@ -76,13 +76,25 @@ fn is_not_behind(alloc: Global, one: &Spec, other: &Spec) -> Result<bool, AllocE
     }
 }
 
+/// Whether a specification doesn't come before another one, if there is one.
+fn may_follow(alloc: Global, last: Option<&Spec>, spec: &Spec) -> Result<bool, AllocError>
+    ensures { IfOk result (λ so. so
+        ≡ reading.may_follow (option_copied last.entry) spec.now) }
+{
+    match last {
+        Some(last) => is_not_behind(alloc, last, spec),
+        None => Ok(true),
+    }
+}
+
+#[tactic(auto, using(crate::proofs::LoopLemmas::order_one, crate::proofs::LoopLemmas::order_end))]
 /// Whether specifications are in order, by name and text.
 fn are_in_order(alloc: Global, specs: &[Spec]) -> Result<bool, AllocError>
     ensures { IfOk result (λ so. so ≡ reading.in_order specs.now) }
 {
     let mut last: Option<&Spec> = None;
     for spec in specs {
-        if let Some(last) = last && !is_not_behind(alloc, last, spec)? {
+        if !may_follow(alloc, last, spec)? {
             return Ok(false);
         }
         last = Some(spec);

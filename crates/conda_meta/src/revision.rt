@@ -11,6 +11,7 @@ ghost use Rattle.conda_meta.specs.declared.error.MetaErr.{MetaErr};
 
 use crate::error::{FieldErr, MetaErr, MetaField};
 use crate::good::goods_field;
+use crate::laws::meta_laws;
 use crate::linked::Linked;
 use crate::named::ascend;
 use crate::record_field::{dist_of, record_of};
@@ -19,6 +20,7 @@ use crate::writing::revision_value;
 use conda_base::{Copied, Rows};
 use conda_json::{JsonErr, Value, compact, list_of, object_field, parse_object};
 use conda_path::Dist;
+use conda_record::record_laws;
 use conda_spec::Spec;
 use std::alloc::{AllocError, Global};
 
@@ -205,6 +207,9 @@ impl Revision {
             revision_read text.items ≡ Ok self.now) }
         ensures err { OnErr result (result ≡ Err MetaErr.Memory) }
     {
+        meta_laws();
+        conda_spec::grammar_laws();
+        record_laws();
         let value = revision_value(alloc, self)?;
         match compact(alloc, &value) {
             Ok(text) => Ok(text),
