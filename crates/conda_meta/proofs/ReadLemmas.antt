@@ -548,13 +548,15 @@ packages law no_items [] are = tt
 packages law no_items (one ∷ linked) are = absurd are
 packages law (item value rest) [] are = absurd are
 packages law (item value rest) (one ∷ linked) are =
-    let h = are.0 in
-    (record {
-      rec = law.well_formed h.inner one.rec.dist one.rec.channel one.rec.subdir one.rec h.is_record.fields;
-      channel = h.is_record.is_channel;
-      subdir = h.is_record.is_subdir;
-      outside = outside h.elements one.goods h.are_goods;
-    }, packages law rest linked are.1)
+    let h = are.0 in (
+      record {
+        rec = law.well_formed h.inner one.rec.dist one.rec.channel one.rec.subdir one.rec h.is_record.fields;
+        channel = h.is_record.is_channel;
+        subdir = h.is_record.is_subdir;
+        outside = outside h.elements one.goods h.are_goods;
+      },
+      packages law rest linked are.1,
+    )
 
 no_globs : (items : Items) (specs : List Parts) → Are IsRequested items specs → AllByRecursion HasNoGlob specs
 no_globs no_items [] are = tt
@@ -737,6 +739,7 @@ prefix_back law value linked h =
     elements_are =
         ap (λ o. if option_map_or (λ n. n == 1) o false then ok_or (list_at h.inner (codes "paths")) MetaField.PathsData else Err MetaField.PathsData) h.version
         ∙ ap (λ o. ok_or o MetaField.PathsData) h.paths
+
     placed : paths_data_read (paths_of linked.goods) value ≡ Ok linked.goods
     placed =
         ap (λ o. ok_or o MetaField.PathsData >>= (λ inner. placed_elements inner >>= (λ elements. placed_goods (paths_of linked.goods) elements))) h.paths_data

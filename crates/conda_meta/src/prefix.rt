@@ -122,10 +122,7 @@ fn read_placed(path: &RelPath, value: &Value) -> Result<Good, FieldErr>
     })
 }
 
-#[tactic(auto, using(
-    crate::proofs::LoopLemmas::placed_more,
-    crate::proofs::LoopLemmas::placed_wrong,
-))]
+#[tactic(auto, using(crate::proofs::LoopLemmas::placed_more, crate::proofs::LoopLemmas::placed_wrong,))]
 /// The goods at paths, of which the elements speak one by one.
 fn read_all(alloc: Global, files: &[RelPath], elements: &[Value]) -> Result<Vec<Good>, FieldErr>
     ensures { Gives field_fault_of (result_map_both (λ goods. goods.items) (λ e. e) result)

@@ -68,10 +68,7 @@ fn read_linked(alloc: Global, value: &Value) -> Result<Linked, FieldErr>
     Ok(Linked { rec, goods })
 }
 
-#[tactic(auto, using(
-    crate::proofs::LoopLemmas::linked_more,
-    crate::proofs::LoopLemmas::linked_wrong,
-))]
+#[tactic(auto, using(crate::proofs::LoopLemmas::linked_more, crate::proofs::LoopLemmas::linked_wrong,))]
 /// The packages that elements are, in their order.
 fn read_all(alloc: Global, elements: &[Value]) -> Result<Rows<Linked>, FieldErr>
     ensures { Gives field_fault_of result

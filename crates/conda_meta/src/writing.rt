@@ -171,7 +171,12 @@ pub fn revision_value(alloc: Global, revision: &Revision) -> Result<Value, Alloc
     let unlinked = dists_value(alloc, revision.unlinked.as_slice())?;
     let mut members = Map::new(alloc);
     put(&mut members, alloc, "linked", Value::Array(linked))?;
-    put_specs(alloc, &mut members, "requested", revision.requested.as_slice())?;
+    put_specs(
+        alloc,
+        &mut members,
+        "requested",
+        revision.requested.as_slice(),
+    )?;
     put(&mut members, alloc, "unlinked", Value::Array(unlinked))?;
     Ok(Value::Object(members))
 }

@@ -4,10 +4,12 @@ use conda_path::{Good, Kind};
 use std::alloc::{AllocError, Global};
 
 /// A revision that links the package `a`, as its file has it.
-const REVISION: &str = r#"{"linked":[{"goods":[{"kind":"file","path":"share/a.txt","sha256":"ba7816bf8f01cfea414140de5dae2223b00361a396177a9cb410ff61f20015ad","size":3}],"record":{"build":"0","build_number":0,"channel":"main","constrains":[],"depends":[],"dist":"a-1.0-0","name":"a","noarch":"generic","subdir":"noarch","timestamp":0,"version":"1.0"}}],"requested":["a"],"unlinked":[]}"#;
+const REVISION: &str =
+    r#"{"linked":[{"goods":[{"kind":"file","path":"share/a.txt","sha256":"ba7816bf8f01cfea414140de5dae2223b00361a396177a9cb410ff61f20015ad","size":3}],"record":{"build":"0","build_number":0,"channel":"main","constrains":[],"depends":[],"dist":"a-1.0-0","name":"a","noarch":"generic","subdir":"noarch","timestamp":0,"version":"1.0"}}],"requested":["a"],"unlinked":[]}"#;
 
 /// The same package's record in a prefix.
-const PREFIX: &str = r#"{"build":"0","build_number":0,"channel":"main","constrains":[],"depends":[],"files":["share/a.txt"],"fn":"a-1.0-0","name":"a","noarch":"generic","paths_data":{"paths":[{"_path":"share/a.txt","path_type":"hardlink","sha256_in_prefix":"ba7816bf8f01cfea414140de5dae2223b00361a396177a9cb410ff61f20015ad","size_in_bytes":3}],"paths_version":1},"subdir":"noarch","timestamp":0,"version":"1.0"}"#;
+const PREFIX: &str =
+    r#"{"build":"0","build_number":0,"channel":"main","constrains":[],"depends":[],"files":["share/a.txt"],"fn":"a-1.0-0","name":"a","noarch":"generic","paths_data":{"paths":[{"_path":"share/a.txt","path_type":"hardlink","sha256_in_prefix":"ba7816bf8f01cfea414140de5dae2223b00361a396177a9cb410ff61f20015ad","size_in_bytes":3}],"paths_version":1},"subdir":"noarch","timestamp":0,"version":"1.0"}"#;
 
 /// The rows of conda_meta. A row on a file gives the edits of the file above, each an old text and
 /// the new one in its place.
@@ -137,17 +139,33 @@ fn worded(alloc: Global, words: &str) -> Result<Option<Revision>, AllocError> {
                 Some(cut) => cut,
                 None => (name, "0"),
             };
-            push_item(alloc, &mut linked, format!(in alloc; "{{\"goods\":[{{\"kind\":\"file\",\"path\":\"{name}\",\"sha256\":\"ba7816bf8f01cfea414140de5dae2223b00361a396177a9cb410ff61f20015ad\",\"size\":{size}}}],\"record\":{{\"build\":\"0\",\"build_number\":0,\"channel\":\"main\",\"depends\":[],\"dist\":\"{name}-1-0\",\"name\":\"{name}\",\"subdir\":\"noarch\",\"version\":\"1\"}}}}")?.as_str())?;
+            push_item(
+                alloc,
+                &mut linked,
+                format!(in alloc;
+                    "{{\"goods\":[{{\"kind\":\"file\",\"path\":\"{name}\",\"sha256\":\"ba7816bf8f01cfea414140de5dae2223b00361a396177a9cb410ff61f20015ad\",\"size\":{size}}}],\"record\":{{\"build\":\"0\",\"build_number\":0,\"channel\":\"main\",\"depends\":[],\"dist\":\"{name}-1-0\",\"name\":\"{name}\",\"subdir\":\"noarch\",\"version\":\"1\"}}}}"
+                )?.as_str(),
+            )?;
         } else if let Some(name) = word.strip_prefix("-") {
-            push_item(alloc, &mut unlinked, format!(in alloc; "\"{name}-1-0\"")?.as_str())?;
+            push_item(
+                alloc,
+                &mut unlinked,
+                format!(in alloc; "\"{name}-1-0\"")?.as_str(),
+            )?;
         } else {
-            push_item(alloc, &mut requested, format!(in alloc; "\"{word}\"")?.as_str())?;
+            push_item(
+                alloc,
+                &mut requested,
+                format!(in alloc; "\"{word}\"")?.as_str(),
+            )?;
         }
     }
     let linked = linked.as_str();
     let unlinked = unlinked.as_str();
     let requested = requested.as_str();
-    let text = format!(in alloc; "{{\"linked\":[{linked}],\"requested\":[{requested}],\"unlinked\":[{unlinked}]}}")?;
+    let text = format!(in alloc;
+        "{{\"linked\":[{linked}],\"requested\":[{requested}],\"unlinked\":[{unlinked}]}}"
+    )?;
     match Revision::read(alloc, text.as_str().as_bytes()) {
         Ok(revision) => Ok(Some(revision)),
         Err(MetaErr::Memory) => Err(AllocError),
