@@ -11,8 +11,8 @@ rows="$top/crates/rows_environments"
 mkdir -p "$folder/src" "$folder/specs" "$folder/proofs"
 cp "$rows/src/checks.rt" "$rows/src/shelf.rt" "$folder/src/"
 cp "$rows/specs/Lib.antt" "$rows/specs/Shelf.antt" "$rows/specs/Supplies.antt" "$folder/specs/"
-cp -r "$rows/proofs/Supplies.antt" "$rows/proofs/checks" "$rows/proofs/shelf" "$folder/proofs/"
-echo 'pub mod Supplies' > "$folder/proofs/Lib.antt"
+cp -r "$rows/proofs/Distinct.antt" "$rows/proofs/Supplies.antt" "$rows/proofs/checks" "$rows/proofs/shelf" "$folder/proofs/"
+printf 'pub mod Distinct\npub mod Supplies\n' > "$folder/proofs/Lib.antt"
 mkdir "$folder/proofs/on_machine" "$folder/proofs/in_memory"
 for loop in on_machine in_memory; do
     cat > "$folder/proofs/$loop/Invariants.antt" <<PROOF
