@@ -150,25 +150,40 @@ fn told_by(alloc: Global, made: &mut String, chans: &[MemChan]) -> Result<(), Al
     Ok(())
 }
 
-/// Opens so many handles on the channel of this name, makes calls of them, and tells of each its
-/// faults and what it was asked to read. The plan may also be a target that fails from a call on.
+/// Handles on the channels of these names, or None where the host fails. The plan may also be a
+/// target that fails from a call on.
+pub fn opened<R: Wait + Clone + Send + Drop>(
+    rt: R,
+    alloc: Global,
+    plan: &str,
+    files: &str,
+    names: &str,
+) -> Result<Option<Vec<MemChan>>, AllocError> {
+    let mut host = host_of(rt, alloc, plan, files)?;
+    stop_at(alloc, &mut host, plan)?;
+    let mut chans = Vec::new(alloc);
+    for name in names.split_whitespace() {
+        match host.chan(alloc, "/channels", name) {
+            Ok(chan) => chans.push(chan)?,
+            Err(_) => return Ok(None),
+        }
+    }
+    Ok(Some(chans))
+}
+
+/// Makes calls of handles on these channels, and tells of each its faults and what it was asked to
+/// read.
 fn run_chans<R: Wait + Clone + Send + Drop>(
     rt: R,
     alloc: Global,
     plan: &str,
     files: &str,
-    open: &str,
+    names: &str,
     calls: &str,
 ) -> Result<Option<String>, AllocError> {
-    let mut host = host_of(rt, alloc, plan, files)?;
-    stop_at(alloc, &mut host, plan)?;
-    let mut chans = Vec::new(alloc);
-    for name in open.split_whitespace() {
-        match host.chan(alloc, "/channels", name) {
-            Ok(chan) => chans.push(chan)?,
-            Err(_) => return Ok(Some(String::from_str(alloc, "no handle")?)),
-        }
-    }
+    let Some(mut chans) = opened(rt, alloc, plan, files, names)? else {
+        return Ok(Some(String::from_str(alloc, "no handle")?));
+    };
     let mut made = run_all(alloc, chans.as_mut_slice(), calls)?;
     told_by(alloc, &mut made, chans.as_slice())?;
     Ok(Some(made))

@@ -1,10 +1,11 @@
-use crate::chan::host_of;
+use crate::chan::opened;
+use crate::store;
 use conda_base::{Rows, Text};
 use conda_checked::{CheckErr, Checked, Lack};
-use conda_dev::{Chan, Host, MemHost, Store};
+use conda_dev::{Chan, Store};
 use conda_path::{Digest, Node, RelPath, SlotKey};
 use hex::FromHex;
-use rows_plan::{first_word, key_of, node_of, plan_of, shown_bytes, shown_look};
+use rows_plan::{first_word, key_of, node_of, shown_bytes, shown_look};
 use std::alloc::{AllocError, Global};
 use std::sync::Wait;
 
@@ -47,27 +48,41 @@ fn over_channel<R: Wait + Sync>(
     files: &str,
     calls: &str,
 ) -> Result<Option<String>, AllocError> {
-    let mut host = host_of(rt, alloc, plan, files)?;
-    let (Ok(first), Ok(second)) = (host.chan(alloc, "c", "main"), host.chan(alloc, "c", "main"))
-    else {
+    let Some(chans) = opened(rt, alloc, plan, files, "main main")? else {
         return Ok(None);
     };
-    let (mut first, mut second) = (Checked::make(first), Checked::make(second));
+    let mut checked = Vec::new(alloc);
+    for chan in chans {
+        checked.push(Checked::make(chan))?;
+    }
+    Ok(Some(check_all(alloc, checked.as_mut_slice(), calls)?))
+}
+
+/// Makes the calls of a text, parted by `;`, each of the handle of the number in front of it, and
+/// tells what each handle counts.
+fn check_all<C: Chan>(
+    alloc: Global,
+    chans: &mut [Checked<C>],
+    calls: &str,
+) -> Result<String, AllocError> {
     let mut made = String::new(alloc);
     for call in calls.split(';') {
         let (number, call) = first_word(call.trim());
-        let chan = if number == "1" {
-            &mut second
-        } else {
-            &mut first
+        let Ok(number) = number.parse::<usize>() else {
+            continue;
         };
-        made.push_str(call_chan(alloc, chan, call)?.as_str())?;
-        made.push_str("; ")?;
+        if let Some(chan) = chans.get_mut(number) {
+            made.push_str(call_chan(alloc, chan, call)?.as_str())?;
+            made.push_str("; ")?;
+        }
     }
-    push_chan(&mut made, alloc, &first)?;
-    made.push_str("; ")?;
-    push_chan(&mut made, alloc, &second)?;
-    Ok(Some(made))
+    for (place, chan) in chans.iter().enumerate() {
+        if place > 0 {
+            made.push_str("; ")?;
+        }
+        push_chan(&mut made, alloc, chan)?;
+    }
+    Ok(made)
 }
 
 fn call_chan<C: Chan>(
@@ -106,16 +121,26 @@ fn over_cache<R: Wait + Sync>(
     };
     let mut cached = Vec::new(alloc);
     cached.push((key.clone()?, Rows::from_vec(nodes_of(alloc, files)?)))?;
-    let (none, channels) = (Vec::new(alloc), Vec::new(alloc));
-    let plan = plan_of(alloc, plan)?;
-    let mut host = MemHost::make(rt, alloc, none, channels, cached, plan)?;
-    let Ok(store) = host.store(alloc, "pkgs") else {
+    let Some(mut stores) = store::opened(rt, alloc, plan, cached, 1)? else {
         return Ok(None);
     };
+    match stores.pop() {
+        Some(store) => Ok(Some(check_store(alloc, store, &key, calls)?)),
+        None => Ok(None),
+    }
+}
+
+/// Makes the calls of a text, parted by `;`, and tells what the handle counts.
+fn check_store<S: Store>(
+    alloc: Global,
+    store: S,
+    key: &SlotKey,
+    calls: &str,
+) -> Result<String, AllocError> {
     let mut store = Checked::make(store);
     let mut made = String::new(alloc);
     for call in calls.split(';') {
-        made.push_str(call_store(alloc, &mut store, &key, call.trim())?.as_str())?;
+        made.push_str(call_store(alloc, &mut store, key, call.trim())?.as_str())?;
         made.push_str("; ")?;
     }
     let faults = store.faults();
@@ -127,7 +152,7 @@ fn over_cache<R: Wait + Sync>(
         faults,
     )?;
     push_lack(&mut made, alloc, store.last())?;
-    Ok(Some(made))
+    Ok(made)
 }
 
 fn call_store<S: Store>(

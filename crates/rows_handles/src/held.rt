@@ -3,7 +3,7 @@ ghost use Rattle.conda_dev.specs.Memory.{host_state};
 
 use crate::chan::{host_of, shown_bytes};
 use conda_base::Text;
-use conda_dev::{Chan, Counted, DeviceErr, Failed, Host, Lane, MemHost, MemLane};
+use conda_dev::{Chan, Counted, DeviceErr, Failed, Host, Lane, MemChan, MemHost, MemLane};
 use conda_path::{Node, Prefix, RelPath};
 use rows_plan::{node_of, tree_of, word};
 use std::alloc::{AllocError, Global};
@@ -56,6 +56,25 @@ fn read_both<R: Threads + Sync, C: Chan>(
     )
 }
 
+/// So many handles on a channel, of which the reads of two paths wait for one another.
+fn held_chans<R: Wait + Clone + Send + Drop>(
+    rt: R,
+    alloc: Global,
+    files: &str,
+    paths: (&str, &str),
+    count: u32,
+) -> Result<Vec<MemChan>, AllocError> {
+    let mut host = host_of(rt, alloc, "", files)?;
+    host.hold(alloc, paths.0, paths.1)?;
+    let mut chans = Vec::new(alloc);
+    for _ in 0..count {
+        if let Ok(chan) = host.chan(alloc, "/channels", "main") {
+            chans.push(chan)?;
+        }
+    }
+    Ok(chans)
+}
+
 fn hold_both<R: Threads + Wait + Sync>(
     rt: &R,
     alloc: Global,
@@ -63,12 +82,8 @@ fn hold_both<R: Threads + Wait + Sync>(
     first: &str,
     second: &str,
 ) -> Result<Option<String>, AllocError> {
-    let mut host = host_of(rt, alloc, "", files)?;
-    host.hold(alloc, first, second)?;
-    let (Ok(mut one), Ok(mut other)) = (
-        host.chan(alloc, "/channels", "main"),
-        host.chan(alloc, "/channels", "main"),
-    ) else {
+    let mut chans = held_chans(rt, alloc, files, (first, second), 2)?;
+    let (Some(mut one), Some(mut other)) = (chans.pop(), chans.pop()) else {
         return Ok(None);
     };
     let (this, that) = read_both(rt, alloc, &mut one, &mut other, first, second);
@@ -87,9 +102,8 @@ fn hold_one<R: Threads + Wait + Sync>(
     first: &str,
     second: &str,
 ) -> Result<Option<String>, AllocError> {
-    let mut host = host_of(rt, alloc, "", files)?;
-    host.hold(alloc, first, second)?;
-    let Ok(mut one) = host.chan(alloc, "/channels", "main") else {
+    let mut chans = held_chans(rt, alloc, files, (first, second), 1)?;
+    let Some(mut one) = chans.pop() else {
         return Ok(None);
     };
     let this = shown_bytes(alloc, one.read(alloc, first, 100))?;

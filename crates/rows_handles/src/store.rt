@@ -209,9 +209,30 @@ fn told_by<R: Wait + Send + Drop>(
     Ok(())
 }
 
-/// Opens so many handles on the cache, makes calls of them, and tells of each its faults, what it
-/// was asked to change, and what it read last. The plan may also be a target that fails from a call
-/// on.
+/// So many handles on the cache with these folders, or None where the host fails. The plan may also
+/// be a target that fails from a call on.
+pub fn opened<R: Wait + Clone + Send + Drop>(
+    rt: R,
+    alloc: Global,
+    plan: &str,
+    cached: Vec<(SlotKey, Rows<(RelPath, Node)>)>,
+    count: u32,
+) -> Result<Option<Vec<MemStore<R>>>, AllocError> {
+    let fails = plan_of(alloc, plan)?;
+    let mut host = MemHost::make(rt, alloc, Vec::new(alloc), Vec::new(alloc), cached, fails)?;
+    stop_at(alloc, &mut host, plan)?;
+    let mut stores = Vec::new(alloc);
+    for _ in 0..count {
+        match host.store(alloc, "/pkgs") {
+            Ok(store) => stores.push(store)?,
+            Err(_) => return Ok(None),
+        }
+    }
+    Ok(Some(stores))
+}
+
+/// Makes calls of so many handles on the cache, and tells of each its faults, what it was asked to
+/// change, and what it read last.
 fn run_stores<R: Wait + Clone + Send + Drop>(
     rt: R,
     alloc: Global,
@@ -221,16 +242,10 @@ fn run_stores<R: Wait + Clone + Send + Drop>(
     calls: &str,
 ) -> Result<Option<String>, AllocError> {
     let cached = cached_of(alloc, cached)?;
-    let fails = plan_of(alloc, plan)?;
-    let mut host = MemHost::make(rt, alloc, Vec::new(alloc), Vec::new(alloc), cached, fails)?;
-    stop_at(alloc, &mut host, plan)?;
-    let mut stores = Vec::new(alloc);
-    for _ in 0..handles.parse::<u32>().unwrap_or(0) {
-        match host.store(alloc, "/pkgs") {
-            Ok(store) => stores.push(store)?,
-            Err(_) => return Ok(Some(String::from_str(alloc, "no handle")?)),
-        }
-    }
+    let count = handles.parse::<u32>().unwrap_or(0);
+    let Some(mut stores) = opened(rt, alloc, plan, cached, count)? else {
+        return Ok(Some(String::from_str(alloc, "no handle")?));
+    };
     let mut made = run_all(alloc, stores.as_mut_slice(), calls)?;
     told_by(alloc, &mut made, stores.as_slice())?;
     Ok(Some(made))
