@@ -1,4 +1,4 @@
-use Rattle.std.proofs.Common.{ap, sym, inl, inr, refl, ◌∙◌, ◌≡◌, ◌+◌, Some, option_map, arith}
+use Rattle.std.proofs.Common.{ap, sym, inl, inr, refl, ◌∙◌, ◌≡◌, Some, option_map, arith}
 use Rattle.conda_cli.proofs.ListLemmas.{absent, bad_whole, good_whole, long}
 use Rattle.conda_cli.specs.Answers.{history_limit}
 use Rattle.conda_cli.proofs.listing.history_of.Goals as goal
