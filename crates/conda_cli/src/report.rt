@@ -1,4 +1,4 @@
-ghost use Rattle.std.specs.Prelude.{◌≡◌, ◌<◌, ◌++◌, ◌∷◌, IfOk, OnOk, flat_map, string_bytes};
+ghost use Rattle.std.specs.Prelude.{◌≡◌, ◌++◌, ◌∷◌, IfOk, OnOk, flat_map, string_bytes};
 ghost use Rattle.conda_history.specs.Texts.{ended};
 ghost use Rattle.conda_cli.specs.Report.{IsByName, dist_line, list_text, name_cmp};
 ghost use Rattle.conda_cli.specs.Report.{revision_text, revisions_text};
