@@ -1,7 +1,6 @@
 #!/bin/sh
 # Times `conda list` on generated histories of 1, 8 and 60 MB, many blocks that add and remove, beside `cat`, `sort` and a
-# dozen lines of Python that do the same. Prints MB/s and the ratios. The best of three runs counts. Then `list` on a
-# history of 8 MB with channels, endings and comments, as conda writes it, and `list --revisions` on the plain one.
+# dozen lines of Python that do the same. Prints MB/s and the ratios. The best of three runs counts.
 set -eu
 top=$(cd "$(dirname "$0")/.." && pwd)
 work=$(mktemp -d)
@@ -12,9 +11,7 @@ import sys
 listed = set()
 with open(sys.argv[1] + "/conda-meta/history") as lines:
     for line in lines:
-        line = line.strip(" \r\n")
-        if line[:1] in "+-" and line:
-            line = line[0] + line[1:].rsplit("::", 1)[-1].removesuffix(".conda")
+        line = line.rstrip("\n")
         if line.startswith("-"):
             listed.discard(line[1:])
         elif line.startswith("+"):
@@ -28,21 +25,19 @@ cat > "$work/time.py" <<'PYTHON'
 import os, subprocess, sys, time
 work, program = sys.argv[1], sys.argv[2]
 
-def history(megabytes, name, before="", behind=""):
-    folder = "%s/%s/e/conda-meta" % (work, name)
+def history(megabytes):
+    folder = "%s/%d/e/conda-meta" % (work, megabytes)
     os.makedirs(folder)
     with open(folder + "/history", "w") as out:
         size, block, number = 0, 0, 0
         while size < megabytes * 1000000:
             lines = ["==> 2024-05-01 %02d:%02d:00 <==" % (block // 60 % 24, block % 60)]
-            lines += ["-%spackage%d-1.%d-h%d_0%s" % (before, k, k % 97, k % 7, behind) for k in range(max(0, number - 40), number, 3)]
-            lines += ["+%spackage%d-1.%d-h%d_0%s" % (before, k, k % 97, k % 7, behind) for k in range(number, number + 60)]
-            if before:
-                lines += ["# cmd: conda install package%d" % number]
+            lines += ["-package%d-1.%d-h%d_0" % (k, k % 97, k % 7) for k in range(max(0, number - 40), number, 3)]
+            lines += ["+package%d-1.%d-h%d_0" % (k, k % 97, k % 7) for k in range(number, number + 60)]
             text = "\n".join(lines) + "\n"
             out.write(text)
             size, block, number = size + len(text), block + 1, number + 60
-    return "%s/%s" % (work, name)
+    return "%s/%d" % (work, megabytes)
 
 def best(command, out):
     times = []
@@ -55,7 +50,7 @@ def best(command, out):
 
 per_megabyte = {}
 for megabytes in (1, 8, 60):
-    root = history(megabytes, str(megabytes))
+    root = history(megabytes)
     text = root + "/e/conda-meta/history"
     ours = best([program, "--root", root, "list", "-p", "/e"], work + "/ours")
     python = best(["python3", work + "/replay.py", root + "/e"], work + "/python")
@@ -66,12 +61,5 @@ for megabytes in (1, 8, 60):
     print("%2d MB: conda list %6.1f MB/s; ratio to python %.2f, to cat %.1f, to sort %.2f; the same text: %s"
           % (megabytes, megabytes / ours, ours / python, ours / cat, ours / sort, same))
 print("time per MB, 60 MB against 1 MB: %.2f" % (per_megabyte[60] / per_megabyte[1]))
-root = history(8, "wide", "defaults/linux-64::", ".conda")
-ours = best([program, "--root", root, "list", "-p", "/e"], work + "/ours")
-python = best(["python3", work + "/replay.py", root + "/e"], work + "/python")
-same = open(work + "/ours", "rb").read() == open(work + "/python", "rb").read()
-print(" 8 MB with channels, endings and comments: %6.1f MB/s; ratio to python %.2f; the same text: %s" % (8 / ours, ours / python, same))
-ours = best([program, "--root", work + "/8", "list", "--revisions", "-p", "/e"], work + "/ours")
-print(" 8 MB, list --revisions: %6.1f MB/s" % (8 / ours))
 PYTHON
 python3 "$work/time.py" "$work" "$top/crates/conda/out/conda"

@@ -1,99 +1,32 @@
--- From why a run that reports on a history has its answer to what it answers where no count rises.
-use Rattle.std.proofs.Common.{inl, inr, [], ◌≡◌, ◌↔◌, ◌<◌, ◌≤◌, ℕ, List, Option, Some, None, refl, sym, ap, subst, ◌∙◌, arith, length}
-use Rattle.std.specs.Prelude.{Err, IfSome, Ok, ◌⊎◌}
-use Rattle.conda_base.specs.Reads.{Read}
+-- From why a run of `list` has its answer to what it answers where no count rises.
+use Rattle.std.proofs.Common.{inl, inr, [], ◌≡◌, ◌<◌, ℕ, List, Option, Some, None, refl, sym, ap, subst, ◌∙◌, arith}
+use Rattle.std.specs.Prelude.{IfSome, ◌⊎◌}
 use Rattle.conda_dev.specs.Fault.{Rose}
 use Rattle.conda_dev.specs.Hosts.{HostState}
 use Rattle.conda_dev.specs.Streams.{OutState}
 use Rattle.conda_dev.specs.Tree.{Tree}
-use Rattle.conda_history.specs.Blocks.{IsBadAt, IsHistory}
-use Rattle.conda_history.specs.Reading.{history_read}
+use Rattle.conda_history.specs.Blocks.{IsHistory}
 use Rattle.conda_history.specs.declared.revision.Block.{Block}
-use Rattle.conda_history.specs.declared.revision.History.{History}
 use Rattle.conda_cli.specs.declared.fault.Fault.{Fault}
-use Rattle.conda_cli.specs.declared.fault.Fault.TheVariants.{NoEnv, LongHistory, BadHistory, EnvFault, HostFault, Memory}
+use Rattle.conda_cli.specs.declared.fault.Fault.TheVariants.{NoEnv, BadHistory, EnvFault, HostFault, Memory}
 use Rattle.conda_cli.specs.Faults.{status_of}
-use Rattle.conda_cli.specs.Answers.{Answer, AnswersWith, EndsWith, IsCause, IsFaultOf, IsGiven, IsGood, IsPut, IsQuiet, IsReportAnswer, IsReported, Reports, ReportsExactly, Told, history_in, history_limit, refusal}
-
--- what conda_history says of reading
-pub record Laws : Type 0 where
-  pub meaning : (bytes : List ℕ) (history : History) → (history_read bytes ≡ Ok history) ↔ IsHistory bytes history.blocks
-  pub fault : (bytes : List ℕ) (line : ℕ) → (history_read bytes ≡ Err line) ↔ IsBadAt bytes line
-
--- ---- a history has one meaning
-
-ok_same : (a b : History) → (let m : Read History ℕ = Ok a in m) ≡ Ok b → a ≡ b
-ok_same a b e = cc
-
-err_same : (a b : ℕ) → (let m : Read History ℕ = Err a in m) ≡ Err b → a ≡ b
-err_same a b e = cc
-
-ok_err : (a : History) (b : ℕ) → (let m : Read History ℕ = Ok a in m) ≡ Err b → ⊥
-ok_err a b e = cc
-
-module _ (laws : Laws) where
-  read_of : (text : List ℕ) (blocks : List Block) → IsHistory text blocks → history_read text ≡ Ok (record { blocks = blocks })
-  read_of text blocks h = (laws.meaning text (record { blocks = blocks })).1 h
-
-  one_history : (text : List ℕ) (a b : List Block) → IsHistory text a → IsHistory text b → a ≡ b
-  one_history text a b g h =
-      ap (λ (x : History). x.blocks) (ok_same (record { blocks = a }) (record { blocks = b }) (sym (read_of text a g) ∙ read_of text b h))
-
-  one_line : (text : List ℕ) (a b : ℕ) → IsBadAt text a → IsBadAt text b → a ≡ b
-  one_line text a b g h = err_same a b (sym ((laws.fault text a).1 g) ∙ (laws.fault text b).1 h)
-
-  not_both : (text : List ℕ) (blocks : List Block) (line : ℕ) → IsHistory text blocks → IsBadAt text line → ⊥
-  not_both text blocks line g h = ok_err (record { blocks = blocks }) line (sym (read_of text blocks g) ∙ (laws.fault text line).1 h)
-
-  -- ---- a history is good for one list of blocks, or has one cause
-
-  one_good : (found : Option (List ℕ)) (a b : List Block) → IsGood found a → IsGood found b → a ≡ b
-  one_good found a b g h =
-      let e : g.0 ≡ h.0 = cc (g.1, h.1) in
-      one_history h.0 a b (subst (λ t. IsHistory t a) e g.3) h.3
-
-  one_cause : (found : Option (List ℕ)) (f g : Fault) → IsCause found f → IsCause found g → f ≡ g
-  one_cause None f g p q = p ∙ sym q
-  one_cause (Some text) f g p q =
-      elim p as (λ _. f ≡ g) [
-        | inl x ↦ elim q as (λ _. f ≡ g) [ inl y ↦ x.1 ∙ sym y.1 | inr y ↦ let short = y.1 in let more = x.0 in absurd (omega arith) ]
-        | inr x ↦ elim q as (λ _. f ≡ g) [
-          | inl y ↦ let short = x.1 in let more = y.0 in absurd (omega arith)
-          | inr y ↦ x.3 ∙ ap BadHistory (one_line text x.0 y.0 x.2 y.2) ∙ sym y.3
-        ]
-      ]
-
-  cause_or_good : (found : Option (List ℕ)) (f : Fault) (blocks : List Block) → IsCause found f → IsGood found blocks → ⊥
-  cause_or_good None f blocks p q = let e : None ≡ Some q.0 = q.1 in cc
-  cause_or_good (Some text) f blocks p q =
-      let e : text ≡ q.0 = cc (q.1) in
-      elim p as (λ _. ⊥) [
-        | inl x ↦ let more = x.0 in let short = subst (λ t. length t ≤ history_limit) (sym e) q.2 in absurd (omega arith)
-        | inr x ↦ not_both text blocks x.0 (subst (λ t. IsHistory t blocks) (sym e) q.3) x.2
-      ]
-
--- ---- statuses
-
-cause_status : (found : Option (List ℕ)) (f : Fault) → IsCause found f → ((found ≡ None) × (status_of f ≡ 1)) ⊎ (status_of f ≡ 2)
-cause_status None f p = inl (refl, ap status_of p)
-cause_status (Some text) f (inl x) = inr (ap status_of x.1)
-cause_status (Some text) f (inr x) = inr (ap status_of x.3)
+use Rattle.conda_cli.specs.Answers.{Answer, IsFaultOf, IsList, IsReportOf, IsHistoryOf, IsNoHistory, IsListAnswer, IsPut, IsGiven, AnswersWith, IsQuiet, IsBad, IsGood, Lists, ListsExactly, Told, history_in, refusal}
 
 -- the answer that was given is of the kind that the command's answer is
-pub gives_report : (Is : List Block → Answer → Type 0) (prefix : List ℕ) (c d : HostState) (x : Answer) (status : ℕ) (before now : OutState)
+pub gives_list : (prefix : List ℕ) (c d : HostState) (x : Answer) (status : ℕ) (before now : OutState)
     → AnswersWith (λ answer. (answer ≡ x) ⊎ (answer ≡ refusal Memory [])) status before now
-    → IsReportAnswer Is prefix c d x → AnswersWith (IsReportAnswer Is prefix c d) status before now
-gives_report Is prefix c d x status before now gives is = (
+    → IsListAnswer prefix c d x → AnswersWith (IsListAnswer prefix c d) status before now
+gives_list prefix c d x status before now gives is = (
   gives.0,
-  elim gives.1 as (λ _. IsReportAnswer Is prefix c d gives.0) [
-    | inl same ↦ subst (IsReportAnswer Is prefix c d) (sym same) is
+  elim gives.1 as (λ _. IsListAnswer prefix c d gives.0) [
+    | inl same ↦ subst (IsListAnswer prefix c d) (sym same) is
     | inr memory ↦ inr (Memory, tt, memory)
   ],
   gives.2,
 )
 
-abbrev IsExact : (List Block → Answer → Type 0) → List ℕ → Option (List ℕ) → ℕ → OutState → OutState → Type 0
-IsExact Is prefix found status before now = (status ≡ 5) ⊎ ((answer : Answer) × IsReported Is prefix found answer × IsPut answer status before now)
+abbrev IsExact : List ℕ → Option (List ℕ) → ℕ → OutState → OutState → Type 0
+IsExact prefix found status before now = (status ≡ 5) ⊎ ((answer : Answer) × IsList prefix found answer × IsPut answer status before now)
 
 given_whole : (answer : Answer) (status : ℕ) (before now : OutState) → ¬ Rose before.faults now.faults → IsGiven answer status before now
     → IsPut answer status before now
@@ -108,71 +41,119 @@ memory_alone before now quiet Memory is = refl
 memory_alone before now quiet _ is = absurd is
 
 -- where no count rises, the answer is the tree's
-exact : (Is : List Block → Answer → Type 0) (tree : Tree) (prefix : List ℕ) (status : ℕ) (before now : Told) → before.host.told prefix ≡ Some tree → IsQuiet before now
-    → AnswersWith (IsReportAnswer Is prefix before.host now.host) status before.output now.output
-    → IsExact Is prefix (history_in tree) status before.output now.output
-exact Is tree prefix status before now is quiet gives =
+exact : (tree : Tree) (prefix : List ℕ) (status : ℕ) (before now : Told) → before.host.told prefix ≡ Some tree → IsQuiet before now
+    → AnswersWith (IsListAnswer prefix before.host now.host) status before.output now.output
+    → IsExact prefix (history_in tree) status before.output now.output
+exact tree prefix status before now is quiet gives =
     let whole : IsPut gives.0 status before.output now.output = given_whole gives.0 status before.output now.output quiet.output gives.2 in
-    elim gives.1 as (λ _. IsExact Is prefix (history_in tree) status before.output now.output) [
+    elim gives.1 as (λ _. IsExact prefix (history_in tree) status before.output now.output) [
       | inl lists ↦
           let same : lists.0 ≡ history_in tree = subst (λ t. IfSome t (λ tree. lists.0 ≡ history_in tree)) is lists.1 in
-          inr (gives.0, subst (λ f. IsReported Is prefix f gives.0) same lists.2, whole)
+          inr (gives.0, subst (λ f. IsList prefix f gives.0) same lists.2, whole)
       | inr faults ↦ inl (whole.0 ∙ ap (λ a. a.status) faults.2 ∙ memory_alone before now quiet faults.0 faults.1)
     ]
 
-reports_memory : (Is : List Block → Answer → Type 0) (prefix : List ℕ) (found : Option (List ℕ)) (status : ℕ) (before now : OutState) → status ≡ 5
-    → ReportsExactly Is prefix found status before now
-reports_memory Is prefix found status before now is = record {
-  refused = λ fault cause. inr is;
-  reported = λ blocks good. inr is;
+-- the three answers of `list`, each with what the history then is
+abbrev IsOneOf : List ℕ → Option (List ℕ) → Answer → Type 0
+IsOneOf prefix found answer =
+    ((found ≡ None) × (answer ≡ refusal NoEnv prefix))
+    ⊎ (IsBad found × (answer ≡ refusal (BadHistory 1) prefix))
+    ⊎ ((history : List Block) × IsGood found history × IsReportOf prefix history answer)
+
+one_of : (prefix : List ℕ) (found : Option (List ℕ)) (answer : Answer) → IsList prefix found answer → IsOneOf prefix found answer
+one_of prefix None answer lists = inl (refl, lists)
+one_of prefix (Some text) answer lists =
+    elim lists as (λ _. IsOneOf prefix (Some text) answer) [
+      | inl bad ↦ inr (inl ((text, refl, bad.0), bad.1))
+      | inr good ↦ inr (inr (good.0, (text, refl, good.1), good.2))
+    ]
+
+not_of_text : (text : List ℕ) (history : List Block) → IsNoHistory text → IsHistoryOf text history → ⊥
+not_of_text text history bad good =
+    elim bad as (λ _. ⊥) [ inl long ↦ absurd (let short = good.0 in omega arith) | inr none ↦ none history good.1 ]
+
+not_both : (found : Option (List ℕ)) (history : List Block) → IsBad found → IsGood found history → ⊥
+not_both found history bad good =
+    let e : bad.0 ≡ good.0 = cc (bad.1, good.1) in
+    not_of_text good.0 history (subst IsNoHistory e bad.2) good.2
+
+-- a text is the history of one list of blocks
+abbrev pub OneHistory : Type 0
+OneHistory = (bytes : List ℕ) (first second : List Block) → IsHistory bytes first → IsHistory bytes second → first ≡ second
+
+one_history : OneHistory → (found : Option (List ℕ)) (first second : List Block) → IsGood found first → IsGood found second → first ≡ second
+one_history one found first second good other =
+    let e : good.0 ≡ other.0 = cc (good.1, other.1) in
+    one other.0 first second (subst (λ t. IsHistory t first) e good.2.1) other.2.1
+
+-- the same of an answer all of which was put
+lists_whole : OneHistory → (prefix : List ℕ) (found : Option (List ℕ)) (answer : Answer) (status : ℕ) (before now : OutState)
+    → IsOneOf prefix found answer
+    → IsPut answer status before now → ListsExactly prefix found status before now
+lists_whole one prefix found answer status before now which whole =
+    elim which as (λ _. ListsExactly prefix found status before now) [
+      | inl none ↦
+          let is : status ≡ 1 = whole.0 ∙ ap (λ a. a.status) none.1 in
+          record {
+            absent = λ _. inl (answer, none.1, whole);
+            absent_only = λ _. none.0;
+            bad = λ bad. absurd (let e : None ≡ Some bad.0 = sym none.0 ∙ bad.1 in cc);
+            bad_only = λ two. absurd (omega arith);
+            good = λ history good. absurd (let e : None ≡ Some good.0 = sym none.0 ∙ good.1 in cc);
+            good_only = λ zero. absurd (omega arith);
+          }
+      | inr some ↦ elim some as (λ _. ListsExactly prefix found status before now) [
+        | inl bad ↦
+            let is : status ≡ 2 = whole.0 ∙ ap (λ a. a.status) bad.1 in
+            record {
+              absent = λ none. absurd (let e : None ≡ Some bad.0.0 = sym none ∙ bad.0.1 in cc);
+              absent_only = λ one. absurd (omega arith);
+              bad = λ _. inl (answer, bad.1, whole);
+              bad_only = λ _. bad.0;
+              good = λ history good. absurd (not_both found history bad.0 good);
+              good_only = λ zero. absurd (omega arith);
+            }
+        | inr good ↦
+            let is : status ≡ 0 = whole.0 ∙ ap (λ a. a.status) good.2.4 in
+            record {
+              absent = λ none. absurd (let e : None ≡ Some good.1.0 = sym none ∙ good.1.1 in cc);
+              absent_only = λ one. absurd (omega arith);
+              bad = λ bad. absurd (not_both found good.0 bad good.1);
+              bad_only = λ two. absurd (omega arith);
+              good = λ history other.
+                  inl (answer, subst (λ h. IsReportOf prefix h answer) (one_history one found good.0 history good.1 other) good.2, whole);
+              good_only = λ _. (good.0, good.1);
+            }
+      ]
+    ]
+
+lists_memory : (prefix : List ℕ) (found : Option (List ℕ)) (status : ℕ) (before now : OutState) → status ≡ 5
+    → ListsExactly prefix found status before now
+lists_memory prefix found status before now is = record {
+  absent = λ _. inr is;
   absent_only = λ one. absurd (omega arith);
+  bad = λ _. inr is;
   bad_only = λ two. absurd (omega arith);
+  good = λ history good. inr is;
   good_only = λ zero. absurd (omega arith);
 }
 
-reports_refused : Laws → (Is : List Block → Answer → Type 0) (prefix : List ℕ) (found : Option (List ℕ)) (answer : Answer) (status : ℕ) (before now : OutState)
-    → (fault : Fault) → IsCause found fault → answer ≡ refusal fault prefix → IsPut answer status before now → ReportsExactly Is prefix found status before now
-reports_refused laws Is prefix found answer status before now fault cause same whole =
-    let is : status ≡ status_of fault = whole.0 ∙ ap (λ a. a.status) same in
-    record {
-      refused = λ other cause'. inl (answer, same ∙ ap (λ f. refusal f prefix) (one_cause laws found fault other cause cause'), whole);
-      reported = λ blocks good. absurd (cause_or_good laws found fault blocks cause good);
-      absent_only = λ one. elim (cause_status found fault cause) as (λ _. found ≡ None) [ inl none ↦ none.0 | inr two ↦ absurd (omega arith) ];
-      bad_only = λ two. (fault, cause, sym is ∙ two);
-      good_only = λ zero. absurd (elim (cause_status found fault cause) as (λ _. ⊥) [ inl none ↦ let one = none.1 in absurd (omega arith) | inr two ↦ absurd (omega arith) ]);
-    }
-
-reports_good : Laws → (Is : List Block → Answer → Type 0) → ((blocks : List Block) (answer : Answer) → Is blocks answer → answer.status ≡ 0)
-    → (prefix : List ℕ) (found : Option (List ℕ)) (answer : Answer) (status : ℕ) (before now : OutState)
-    → (blocks : List Block) → IsGood found blocks → Is blocks answer → IsPut answer status before now → ReportsExactly Is prefix found status before now
-reports_good laws Is zero prefix found answer status before now blocks good it whole =
-    let is : status ≡ 0 = whole.0 ∙ zero blocks answer it in
-    record {
-      refused = λ fault cause. absurd (cause_or_good laws found fault blocks cause good);
-      reported = λ other good'. inl (answer, subst (λ b. Is b answer) (one_good laws found blocks other good good') it, whole);
-      absent_only = λ one. absurd (omega arith);
-      bad_only = λ two. absurd (omega arith);
-      good_only = λ _. (blocks, good);
-    }
-
-reports_exactly : Laws → (Is : List Block → Answer → Type 0) → ((blocks : List Block) (answer : Answer) → Is blocks answer → answer.status ≡ 0)
-    → (prefix : List ℕ) (found : Option (List ℕ)) (status : ℕ) (before now : OutState)
-    → IsExact Is prefix found status before now → ReportsExactly Is prefix found status before now
-reports_exactly laws Is zero prefix found status before now (inl memory) = reports_memory Is prefix found status before now memory
-reports_exactly laws Is zero prefix found status before now (inr whole) =
-    elim whole.1 as (λ _. ReportsExactly Is prefix found status before now) [
-      | inl bad ↦ reports_refused laws Is prefix found whole.0 status before now bad.0 bad.1 bad.2 whole.2
-      | inr good ↦ reports_good laws Is zero prefix found whole.0 status before now good.0 good.1 good.2 whole.2
+lists_exactly : OneHistory → (prefix : List ℕ) (found : Option (List ℕ)) (status : ℕ) (before now : OutState)
+    → IsExact prefix found status before now → ListsExactly prefix found status before now
+lists_exactly one prefix found status before now e =
+    elim e as (λ _. ListsExactly prefix found status before now) [
+      | inl memory ↦ lists_memory prefix found status before now memory
+      | inr whole ↦ lists_whole one prefix found whole.0 status before now (one_of prefix found whole.0 whole.1) whole.2
     ]
 
-below_three : (Is : List Block → Answer → Type 0) → ((blocks : List Block) (answer : Answer) → Is blocks answer → answer.status ≡ 0)
-    → (prefix : List ℕ) (found : Option (List ℕ)) (answer : Answer) → IsReported Is prefix found answer → answer.status < 3
-below_three Is zero prefix found answer which =
+below_three : (prefix : List ℕ) (found : Option (List ℕ)) (answer : Answer) → IsOneOf prefix found answer → answer.status < 3
+below_three prefix found answer which =
     elim which as (λ _. answer.status < 3) [
-      | inl bad ↦
-          let e : answer.status ≡ status_of bad.0 = ap (λ a. a.status) bad.2 in
-          elim (cause_status found bad.0 bad.1) as (λ _. answer.status < 3) [ inl none ↦ let one = none.1 in omega arith | inr two ↦ omega arith ]
-      | inr good ↦ let e : answer.status ≡ 0 = zero good.0 answer good.2 in omega arith
+      | inl none ↦ let e : answer.status ≡ 1 = ap (λ a. a.status) none.1 in omega arith
+      | inr some ↦ elim some as (λ _. answer.status < 3) [
+        | inl bad ↦ let e : answer.status ≡ 2 = ap (λ a. a.status) bad.1 in omega arith
+        | inr good ↦ let e : answer.status ≡ 0 = ap (λ a. a.status) good.2.4 in omega arith
+      ]
     ]
 
 -- some count rose
@@ -188,32 +169,30 @@ fault_of_three before now Memory is three = absurd (omega (arith, three))
 fault_of_three before now _ is three = absurd is
 
 -- status 3 only where a count rose
-fault_rose : (Is : List Block → Answer → Type 0) → ((blocks : List Block) (answer : Answer) → Is blocks answer → answer.status ≡ 0)
-    → (prefix : List ℕ) (before now : Told) (status : ℕ)
-    → AnswersWith (IsReportAnswer Is prefix before.host now.host) status before.output now.output → status ≡ 3 → Rises before now
-fault_rose Is zero prefix before now status gives three =
+fault_rose : (prefix : List ℕ) (before now : Told) (status : ℕ)
+    → AnswersWith (IsListAnswer prefix before.host now.host) status before.output now.output → status ≡ 3 → Rises before now
+fault_rose prefix before now status gives three =
     elim gives.2 as (λ _. Rises before now) [
       | inr cut ↦ inr (inr cut.1)
       | inl put ↦ elim gives.1 as (λ _. Rises before now) [
         | inl lists ↦
-            let small : gives.0.status < 3 = below_three Is zero prefix lists.0 gives.0 lists.2 in
+            let small : gives.0.status < 3 = below_three prefix lists.0 gives.0 (one_of prefix lists.0 gives.0 lists.2) in
             let same : status ≡ gives.0.status = put.0 in
             absurd (omega arith)
         | inr faults ↦ fault_of_three before now faults.0 faults.1 (sym (ap (λ a. a.status) faults.2) ∙ sym put.0 ∙ three)
       ]
     ]
 
--- all that such a run tells
-pub reports_all : Laws → (Is : List Block → Answer → Type 0) → ((blocks : List Block) (answer : Answer) → Is blocks answer → answer.status ≡ 0)
-    → (prefix : List ℕ) (status : ℕ) (before now : Told) (x : Answer)
+-- all that a run of `list` tells
+pub listed_all : OneHistory → (prefix : List ℕ) (status : ℕ) (before now : Told) (x : Answer)
     → AnswersWith (λ answer. (answer ≡ x) ⊎ (answer ≡ refusal Memory [])) status before.output now.output
-    → IsReportAnswer Is prefix before.host now.host x → Reports Is prefix status before now
-reports_all laws Is zero prefix status before now x gives is =
-    let g : AnswersWith (IsReportAnswer Is prefix before.host now.host) status before.output now.output =
-    gives_report Is prefix before.host now.host x status before.output now.output gives is in
+    → IsListAnswer prefix before.host now.host x → Lists prefix status before now
+listed_all one prefix status before now x gives is =
+    let g : AnswersWith (IsListAnswer prefix before.host now.host) status before.output now.output =
+    gives_list prefix before.host now.host x status before.output now.output gives is in
     record {
       answers = g;
-      exactly = λ tree told quiet. reports_exactly laws Is zero prefix (history_in tree) status before.output now.output
-          (exact Is tree prefix status before now told quiet g);
-      faults = fault_rose Is zero prefix before now status g;
+      exactly = λ tree told quiet. lists_exactly one prefix (history_in tree) status before.output now.output
+          (exact tree prefix status before now told quiet g);
+      faults = fault_rose prefix before now status g;
     }

@@ -2,20 +2,22 @@
 use Rattle.std.specs.Prelude.{◌≡◌, ◌⊎◌, ℕ, ◌<◌, ◌≤◌, ◌↔◌, List, [], length, take, codes, Option, Some, None, option_map, IfSome, Result, Ok, Err, String, string_bytes}
 use Rattle.std.specs.declared.alloc.Global.{Global}
 use Rattle.std.specs.FinMap as map
-use Rattle.conda_base.specs.Texts.{Ascending}
+use Rattle.std.specs.Ordering.{nat_cmp}
+use Rattle.std.specs.Cmp.Lexicographic.{slice_cmp}
+use Rattle.std.specs.List.Sorted.{IsStrictlySortedBy}
 use Rattle.conda_dev.specs.Fault.{Rose}
 use Rattle.conda_device.specs.declared.fault.DeviceErr.{DeviceErr}
 use Rattle.conda_device.specs.declared.fault.DeviceErr.TheVariants as lane
 use Rattle.conda_dev.specs.Hosts.{HostState}
 use Rattle.conda_dev.specs.Streams.{OutState, appended}
 use Rattle.conda_dev.specs.Tree.{Tree}
-use Rattle.conda_history.specs.Blocks.{IsBadAt, IsHistory}
-use Rattle.conda_history.specs.Sets.{IsIn, IsLeft, changes_of}
+use Rattle.conda_history.specs.Blocks.{IsHistory}
+use Rattle.conda_history.specs.Sets.{IsIn, IsLeft}
 use Rattle.conda_history.specs.declared.revision.Block.{Block}
 use Rattle.conda_cli.specs.declared.fault.Fault.{Fault}
-use Rattle.conda_cli.specs.declared.fault.Fault.TheVariants.{NoEnv, LongHistory, BadHistory, EnvFault, HostFault, Memory}
+use Rattle.conda_cli.specs.declared.fault.Fault.TheVariants.{NoEnv, BadHistory, EnvFault, HostFault, Memory}
 use Rattle.conda_cli.specs.Faults.{fault_text, status_of}
-use Rattle.conda_cli.specs.Report.{IsByName, list_text, revisions_text}
+use Rattle.conda_cli.specs.Report.{IsByName, list_text}
 
 -- a status, and the text that is put out
 pub record Answer : Type 0 where
@@ -35,7 +37,7 @@ abbrev pub answer_of : Result (String Global) Fault → List ℕ → Answer
 answer_of (Ok text) prefix = record { status = 0; text = string_bytes text }
 answer_of (Err fault) prefix = refusal fault prefix
 
--- ---- what a command answers that reports on a history
+-- ---- what `list` answers of a history
 
 -- the most bytes of a history
 abbrev pub history_limit : ℕ
@@ -45,36 +47,30 @@ history_limit = 67108864
 abbrev pub history_in : Tree → Option (List ℕ)
 history_in tree = option_map (λ node. node.bytes) (map.get tree (codes "conda-meta/history"))
 
--- why there is no report: the history is absent, or longer than the limit, or a line of it is the first bad one
-abbrev pub IsCause : Option (List ℕ) → Fault → Type 0
-IsCause None fault = fault ≡ NoEnv
-IsCause (Some text) fault =
-    ((history_limit < length text) × (fault ≡ LongHistory))
-    ⊎ ((line : ℕ) × (length text ≤ history_limit) × IsBadAt text line × (fault ≡ BadHistory line))
+-- the text is the history of these blocks, and no longer than the limit
+abbrev pub IsHistoryOf : List ℕ → List Block → Type 0
+IsHistoryOf text blocks = (length text ≤ history_limit) × IsHistory text blocks
 
--- the history is there, no longer than the limit, and has these blocks
-abbrev pub IsGood : Option (List ℕ) → List Block → Type 0
-IsGood found blocks = (text : List ℕ) × (found ≡ Some text) × (length text ≤ history_limit) × IsHistory text blocks
-
--- the report of this kind on the history, or why there is none
-abbrev pub IsReported : (List Block → Answer → Type 0) → List ℕ → Option (List ℕ) → Answer → Type 0
-IsReported Is prefix found answer =
-    ((fault : Fault) × IsCause found fault × (answer ≡ refusal fault prefix))
-    ⊎ ((blocks : List Block) × IsGood found blocks × Is blocks answer)
+-- the text is longer than the limit, or of another form
+abbrev pub IsNoHistory : List ℕ → Type 0
+IsNoHistory text = (history_limit < length text) ⊎ ((blocks : List Block) → ¬ IsHistory text blocks)
 
 -- the dists that the blocks leave, ascending, each once
 pub record IsSetOf (blocks : List Block) (set : List (List ℕ)) : Type 0 where
   pub members : (dist : List ℕ) → IsIn dist set ↔ IsLeft blocks dist
-  pub ascending : Ascending set
+  pub ascending : IsStrictlySortedBy (slice_cmp nat_cmp) set
 
--- the report of `list`: of the set that the blocks leave
+-- the report of the set that the blocks leave
 abbrev pub IsReportOf : List ℕ → List Block → Answer → Type 0
 IsReportOf prefix blocks answer =
     (set : List (List ℕ)) × (dists : List (List ℕ)) × IsSetOf blocks set × IsByName set dists × (answer ≡ report prefix dists)
 
--- the report of `list --revisions`: of what each block changes in the set
-abbrev pub IsRevisionsOf : List Block → Answer → Type 0
-IsRevisionsOf blocks answer = answer ≡ record { status = 0; text = revisions_text (changes_of blocks) }
+-- of a history that is absent, or this text
+abbrev pub IsList : List ℕ → Option (List ℕ) → Answer → Type 0
+IsList prefix None answer = answer ≡ refusal NoEnv prefix
+IsList prefix (Some text) answer =
+    (IsNoHistory text × (answer ≡ refusal (BadHistory 1) prefix))
+    ⊎ ((blocks : List Block) × IsHistoryOf text blocks × IsReportOf prefix blocks answer)
 
 -- ---- what a run meets
 
@@ -109,11 +105,11 @@ lane_answer (Ok x) = Ok x
 lane_answer (Err lane.Failed) = Err EnvFault
 lane_answer (Err lane.Memory) = Err Memory
 
--- A run that reports on a history answers by it, the tree's where it is told; or a fault of which the count rose; or
--- that there was no memory.
-abbrev pub IsReportAnswer : (List Block → Answer → Type 0) → List ℕ → HostState → HostState → Answer → Type 0
-IsReportAnswer Is prefix before now answer =
-    ((found : Option (List ℕ)) × IfSome (before.told prefix) (λ tree. found ≡ history_in tree) × IsReported Is prefix found answer)
+-- A run of `list` answers by the history, the tree's where it is told; or a fault of which the count rose; or that
+-- there was no memory.
+abbrev pub IsListAnswer : List ℕ → HostState → HostState → Answer → Type 0
+IsListAnswer prefix before now answer =
+    ((found : Option (List ℕ)) × IfSome (before.told prefix) (λ tree. found ≡ history_in tree) × IsList prefix found answer)
     ⊎ ((fault : Fault) × IsFaultOf before now fault × (answer ≡ refusal fault prefix))
 
 -- all of an answer's text was put, and its status is the run's
@@ -134,7 +130,7 @@ AnswersWith IsIt status before now = (answer : Answer) × IsIt answer × IsGiven
 abbrev pub IsRefusal : Fault → Answer → Type 0
 IsRefusal fault answer = (answer ≡ refusal fault []) ⊎ (answer ≡ refusal Memory [])
 
--- ---- a run that reports on a history
+-- ---- a run of `list`
 
 -- no count of faults rises
 pub record IsQuiet (before now : Told) : Type 0 where
@@ -146,21 +142,31 @@ pub record IsQuiet (before now : Told) : Type 0 where
 abbrev pub EndsWith : (Answer → Type 0) → ℕ → OutState → OutState → Type 0
 EndsWith IsIt status before now = ((answer : Answer) × IsIt answer × IsPut answer status before now) ⊎ (status ≡ 5)
 
--- What such a run does, of a prefix whose tree is told, where no count of faults rises. Each answer comes exactly where
--- it is due: that there is no environment, that its history is too long or bad, and the report.
-pub record ReportsExactly (Is : List Block → Answer → Type 0) (prefix : List ℕ) (found : Option (List ℕ)) (status : ℕ) (before now : OutState) : Type 0 where
-  pub refused : (fault : Fault) → IsCause found fault → EndsWith (λ answer. answer ≡ refusal fault prefix) status before now
-  pub reported : (blocks : List Block) → IsGood found blocks → EndsWith (Is blocks) status before now
+-- the history is there, and is longer than its limit or of another form
+abbrev pub IsBad : Option (List ℕ) → Type 0
+IsBad found = (text : List ℕ) × (found ≡ Some text) × IsNoHistory text
+
+-- the history is there, and has these blocks
+abbrev pub IsGood : Option (List ℕ) → List Block → Type 0
+IsGood found blocks = (text : List ℕ) × (found ≡ Some text) × IsHistoryOf text blocks
+
+-- What a run of `list` does, of a prefix whose tree is told, where no count of faults rises. Each answer comes exactly
+-- where it is due: that there is no environment, that its history is bad, and the report of the history's set.
+pub record ListsExactly (prefix : List ℕ) (found : Option (List ℕ)) (status : ℕ) (before now : OutState) : Type 0 where
+  pub absent : found ≡ None → EndsWith (λ answer. answer ≡ refusal NoEnv prefix) status before now
   pub absent_only : status ≡ 1 → found ≡ None
-  pub bad_only : status ≡ 2 → (fault : Fault) × IsCause found fault × (status_of fault ≡ 2)
+  pub bad : IsBad found → EndsWith (λ answer. answer ≡ refusal (BadHistory 1) prefix) status before now
+  pub bad_only : status ≡ 2 → IsBad found
+  pub good : (blocks : List Block) → IsGood found blocks
+      → EndsWith (IsReportOf prefix blocks) status before now
   pub good_only : status ≡ 0 → (blocks : List Block) × IsGood found blocks
 
--- what a run on a prefix tells that gives reports of this kind
-pub record Reports (Is : List Block → Answer → Type 0) (prefix : List ℕ) (status : ℕ) (before now : Told) : Type 0 where
+-- what a run of `list` on a prefix tells
+pub record Lists (prefix : List ℕ) (status : ℕ) (before now : Told) : Type 0 where
   -- some answer is given, with its cause
-  pub answers : AnswersWith (IsReportAnswer Is prefix before.host now.host) status before.output now.output
+  pub answers : AnswersWith (IsListAnswer prefix before.host now.host) status before.output now.output
   pub exactly : (tree : Tree) → before.host.told prefix ≡ Some tree → IsQuiet before now
-      → ReportsExactly Is prefix (history_in tree) status before.output now.output
+      → ListsExactly prefix (history_in tree) status before.output now.output
   -- a fault only where a count rose
   pub faults : status ≡ 3 → Rose before.host.faults now.host.faults ⊎ Rose before.host.lane_faults now.host.lane_faults
       ⊎ Rose before.output.faults now.output.faults

@@ -1,7 +1,7 @@
 -- The printed lines of faults, and the statuses that go with them. This project's own.
 use Rattle.std.specs.Prelude.{ℕ, List, [], ◌∷◌, ◌++◌, codes, decimal}
 use Rattle.conda_cli.specs.declared.fault.Fault.{Fault}
-use Rattle.conda_cli.specs.declared.fault.Fault.TheVariants.{Usage, NoEnv, LongHistory, BadHistory, EnvFault, HostFault, Memory}
+use Rattle.conda_cli.specs.declared.fault.Fault.TheVariants.{Usage, NoEnv, BadHistory, EnvFault, HostFault, Memory}
 use Rattle.conda_words.specs.declared.error.Why.{Why}
 use Rattle.conda_words.specs.declared.error.Why.TheVariants.{Unknown, Missing, Extra, Twice, Number, Path, Channel, Nested, Limit}
 
@@ -21,7 +21,6 @@ why_text Limit = codes "limit"
 abbrev pub fault_text : Fault → List ℕ → List ℕ
 fault_text (Usage at why) prefix = codes "usage: " ++ (decimal at ++ 32 ∷ (why_text why ++ 10 ∷ []))
 fault_text NoEnv prefix = codes "no environment at " ++ (prefix ++ 10 ∷ [])
-fault_text LongHistory prefix = codes "too long: conda-meta/history 67108864\n"
 fault_text (BadHistory line) prefix = codes "bad history: line " ++ (decimal line ++ 10 ∷ [])
 fault_text EnvFault prefix = codes "environment fault\n"
 fault_text HostFault prefix = codes "host fault\n"
@@ -31,7 +30,6 @@ fault_text Memory prefix = codes "out of memory\n"
 abbrev pub status_of : Fault → ℕ
 status_of (Usage at why) = 2
 status_of NoEnv = 1
-status_of LongHistory = 2
 status_of (BadHistory line) = 2
 status_of EnvFault = 3
 status_of HostFault = 3

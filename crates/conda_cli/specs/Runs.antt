@@ -2,7 +2,6 @@
 use Rattle.std.specs.Prelude.{◌≡◌, ℕ, Bool, true, false, List, [], ◌∷◌, Option, Some, None, Ok, Err}
 use Rattle.conda_base.specs.Reads.{Read}
 use Rattle.conda_dev.specs.Hosts.{SameOfAll}
-use Rattle.conda_history.specs.declared.revision.Block.{Block}
 use Rattle.conda_words.specs.declared.command.Command.{Command}
 use Rattle.conda_words.specs.declared.command.Verb.{Verb}
 use Rattle.conda_words.specs.declared.command.Verb.TheVariants as verbs
@@ -11,7 +10,7 @@ use Rattle.conda_words.specs.declared.error.Why.TheVariants.{Unknown}
 use Rattle.conda_words.specs.Reading.{words_read}
 use Rattle.conda_cli.specs.declared.fault.Fault.{Fault}
 use Rattle.conda_cli.specs.declared.fault.Fault.TheVariants.{Usage}
-use Rattle.conda_cli.specs.Answers.{Answer, AnswersWith, Devices, IsRefusal, IsReportOf, IsRevisionsOf, Reports}
+use Rattle.conda_cli.specs.Answers.{Devices, AnswersWith, IsRefusal, Lists}
 
 -- the words of some command line give it
 abbrev pub IsRead : Command → Type 0
@@ -28,11 +27,6 @@ abbrev pub listed : Verb → List (List ℕ) → Option (List ℕ)
 listed verbs.List (prefix ∷ []) = Some prefix
 listed _ _ = None
 
--- the prefix whose revisions it lists
-abbrev pub revised : Verb → List (List ℕ) → Option (List ℕ)
-revised verbs.Revisions (prefix ∷ []) = Some prefix
-revised _ _ = None
-
 module _ {H K I : Type 0} where
   -- neither the clock nor the input was touched
   pub record IsUnread (before now : Devices H K I) : Type 0 where
@@ -45,16 +39,15 @@ module _ {H K I : Type 0} where
     pub host : now.host ≡ before.host
     pub unread : IsUnread before now
 
-  -- a report of this kind on the history of an environment was given
-  pub record RunsReport (Is : List Block → Answer → Type 0) (prefix : List ℕ) (status : ℕ) (before now : Devices H K I) : Type 0 where
-    pub reports : Reports Is prefix status before.told now.told
+  -- the packages of an environment were listed
+  pub record RunsList (prefix : List ℕ) (status : ℕ) (before now : Devices H K I) : Type 0 where
+    pub lists : Lists prefix status before.told now.told
     pub unread : IsUnread before now
 
   -- What a run of a command does, by its verb and its prefixes: each verb that is built has its case here. Every other
   -- command is refused.
   abbrev pub RunsVerb : Verb → List (List ℕ) → ℕ → Devices H K I → Devices H K I → Type 0
-  RunsVerb verbs.List (prefix ∷ []) status before now = RunsReport (IsReportOf prefix) prefix status before now
-  RunsVerb verbs.Revisions (prefix ∷ []) status before now = RunsReport IsRevisionsOf prefix status before now
+  RunsVerb verbs.List (prefix ∷ []) status before now = RunsList prefix status before now
   RunsVerb _ _ status before now = Refuses (Usage 0 Unknown) status before now
 
   -- the words are read as a command, which runs, or as their first fault

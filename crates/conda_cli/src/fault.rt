@@ -31,8 +31,6 @@ pub enum Fault {
     Usage { at: u64, why: Why },
     /// There is no environment at the prefix.
     NoEnv,
-    /// The environment's history is longer than 67,108,864 bytes.
-    LongHistory,
     /// The environment's history doesn't read: the number of the first bad line, from 1.
     BadHistory { line: u64 },
     /// A lane of the prefix failed.
@@ -50,7 +48,7 @@ impl Fault {
     {
         match self {
             Fault::NoEnv => 1,
-            Fault::Usage { .. } | Fault::LongHistory | Fault::BadHistory { .. } => 2,
+            Fault::Usage { .. } | Fault::BadHistory { .. } => 2,
             Fault::EnvFault | Fault::HostFault => 3,
             Fault::Memory => 5,
         }
@@ -93,7 +91,6 @@ pub fn fault_line(
             Some(prefix) => no_env_line(alloc, prefix),
             None => unreachable!(),
         },
-        Fault::LongHistory => String::from_str(alloc, "too long: conda-meta/history 67108864\n"),
         Fault::BadHistory { line } => bad_history_line(alloc, line),
         Fault::EnvFault => String::from_str(alloc, "environment fault\n"),
         Fault::HostFault => String::from_str(alloc, "host fault\n"),

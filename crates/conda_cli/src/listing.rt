@@ -1,36 +1,12 @@
-ghost use Rattle.std.specs.Prelude.{◌≡◌, ◌+◌, ◌⊎◌, Err, List, MatchResult, Option, option_map, take, ℕ};
-ghost use Rattle.conda_cli.specs.Answers.{IsCause, IsGood, IsReported, IsReportOf, IsRevisionsOf};
-ghost use Rattle.conda_cli.specs.Answers.{answer_of, history_limit, refusal};
+ghost use Rattle.std.specs.Prelude.{◌≡◌, ◌+◌, ◌⊎◌, Err, List, Option, Some, option_map, take, ℕ};
+ghost use Rattle.conda_cli.specs.Answers.{IsList, IsReportOf, answer_of, history_limit, refusal};
 
 use crate::fault::Fault;
 use crate::history_file::HISTORY_LIMIT;
-use crate::report::{list_report, revisions_report, sort_by_name};
-use conda_history::{History, HistoryErr, grammar_laws};
+use crate::report::{list_report, sort_by_name};
+use conda_history::{History, HistoryErr};
 use conda_path::{Node, Prefix};
 use std::alloc::Global;
-
-/// Reads the history whose first bytes were found, one more than its limit at the most.
-fn history_of(alloc: Global, found: Option<Node>) -> Result<History, Fault>
-    ensures { (text : Option (List ℕ))
-        → option_map (λ node. node.bytes) found ≡ option_map (take (history_limit + 1)) text
-        → MatchResult result (λ history. IsGood text history.blocks)
-        (λ fault. IsCause text fault ⊎ (fault ≡ Fault.Memory)) }
-{
-    grammar_laws();
-    let node = match found {
-        Some(node) => node,
-        None => return Err(Fault::NoEnv),
-    };
-    let bytes = node.bytes.as_slice();
-    if bytes.len() as u64 > HISTORY_LIMIT {
-        return Err(Fault::LongHistory);
-    }
-    match History::read(alloc, bytes) {
-        Ok(history) => Ok(history),
-        Err(HistoryErr::BadHistory { line }) => Err(Fault::BadHistory { line }),
-        Err(HistoryErr::Memory) => Err(Fault::Memory),
-    }
-}
 
 /// The report of a history's set.
 fn report_of(alloc: Global, prefix: &Prefix, history: &History) -> Result<String, Fault>
@@ -50,44 +26,24 @@ fn report_of(alloc: Global, prefix: &Prefix, history: &History) -> Result<String
     }
 }
 
-/// The report of what each revision of a history changes.
-fn changes_of(alloc: Global, prefix: &Prefix, history: &History) -> Result<String, Fault>
-    ensures { IsRevisionsOf history.now.blocks (answer_of result prefix.now)
-        ⊎ (result ≡ Err Fault.Memory) }
-{
-    let changes = match history.changes(alloc) {
-        Ok(changes) => changes,
-        Err(_) => return Err(Fault::Memory),
-    };
-    match revisions_report(alloc, changes.as_slice()) {
-        Ok(text) => Ok(text),
-        Err(_) => Err(Fault::Memory),
-    }
-}
-
 /// Lists the set of the history whose first bytes were found, one more than its limit at the most.
 pub fn list_of(alloc: Global, prefix: &Prefix, found: Option<Node>) -> Result<String, Fault>
     ensures { (text : Option (List ℕ))
         → option_map (λ node. node.bytes) found ≡ option_map (take (history_limit + 1)) text
-        → IsReported (IsReportOf prefix.now) prefix.now text (answer_of result prefix.now)
+        → IsList prefix.now text (answer_of result prefix.now)
         ⊎ (answer_of result prefix.now ≡ refusal Fault.Memory prefix.now) }
 {
-    match history_of(alloc, found) {
-        Ok(history) => report_of(alloc, prefix, &history),
-        Err(fault) => Err(fault),
+    let node = match found {
+        Some(node) => node,
+        None => return Err(Fault::NoEnv),
+    };
+    let bytes = node.bytes.as_slice();
+    if bytes.len() as u64 > HISTORY_LIMIT {
+        return Err(Fault::BadHistory { line: 1 });
     }
-}
-
-/// Lists the revisions of the history whose first bytes were found, one more than its limit at the
-/// most.
-pub fn revisions_of(alloc: Global, prefix: &Prefix, found: Option<Node>) -> Result<String, Fault>
-    ensures { (text : Option (List ℕ))
-        → option_map (λ node. node.bytes) found ≡ option_map (take (history_limit + 1)) text
-        → IsReported IsRevisionsOf prefix.now text (answer_of result prefix.now)
-        ⊎ (answer_of result prefix.now ≡ refusal Fault.Memory prefix.now) }
-{
-    match history_of(alloc, found) {
-        Ok(history) => changes_of(alloc, prefix, &history),
-        Err(fault) => Err(fault),
+    match History::read(alloc, bytes) {
+        Ok(history) => report_of(alloc, prefix, &history),
+        Err(HistoryErr::BadHistory { .. }) => Err(Fault::BadHistory { line: 1 }),
+        Err(HistoryErr::Memory) => Err(Fault::Memory),
     }
 }

@@ -1,17 +1,17 @@
 ghost use Rattle.std.specs.Prelude.{◌≡◌, ◌≢◌, ℕ, List, Ok, false, map, string_bytes};
 ghost use Rattle.conda_dev.specs.Hosts.{SameOfAll};
 ghost use Rattle.conda_words.specs.Reading.{words_read};
-ghost use Rattle.conda_cli.specs.Answers.{AnswersWith, IsRefusal, IsReportAnswer, IsReportOf, IsRevisionsOf, Reports};
+ghost use Rattle.conda_cli.specs.Answers.{AnswersWith, IsListAnswer, IsRefusal, Lists};
 ghost use Rattle.conda_cli.specs.Answers.{answer_of, devices};
 ghost use Rattle.conda_cli.specs.Runs.{IsRead, Runs, waits};
 
 use crate::fault::Fault;
 use crate::history_file::find_history;
-use crate::listing::{list_of, revisions_of};
+use crate::listing::list_of;
 use crate::say::{give, give_fault};
-use crate::words::{listed, revised, waits};
+use crate::words::{listed, waits};
 use conda_dev::{Clock, Host, In, Out};
-use conda_history::grammar_laws;
+use conda_history::history_laws;
 use conda_path::Prefix;
 use conda_words::{Command, Why, WordsErr, read_words};
 use std::alloc::Global;
@@ -28,27 +28,13 @@ pub struct Ended<H> {
 /// Lists the packages of the environment at a prefix.
 fn list<H: Host>(alloc: Global, host: &mut H, prefix: &Prefix) -> Result<String, Fault>
     requires { (H.state host.old).lent prefix.now ≡ false }
-    ensures answer { IsReportAnswer (IsReportOf prefix.now) prefix.now (H.state host.old)
-        (H.state host.new) (answer_of result prefix.now) }
+    ensures answer { IsListAnswer prefix.now (H.state host.old) (H.state host.new)
+        (answer_of result prefix.now) }
     ensures trees { SameOfAll (H.state host.old).told (H.state host.new).told }
     ensures lent { SameOfAll (H.state host.old).lent (H.state host.new).lent }
 {
     match find_history(alloc, host, prefix) {
         Ok(found) => list_of(alloc, prefix, found),
-        Err(fault) => Err(fault),
-    }
-}
-
-/// Lists the revisions of the environment at a prefix.
-fn revisions<H: Host>(alloc: Global, host: &mut H, prefix: &Prefix) -> Result<String, Fault>
-    requires { (H.state host.old).lent prefix.now ≡ false }
-    ensures answer { IsReportAnswer IsRevisionsOf prefix.now (H.state host.old)
-        (H.state host.new) (answer_of result prefix.now) }
-    ensures trees { SameOfAll (H.state host.old).told (H.state host.new).told }
-    ensures lent { SameOfAll (H.state host.old).lent (H.state host.new).lent }
-{
-    match find_history(alloc, host, prefix) {
-        Ok(found) => revisions_of(alloc, prefix, found),
         Err(fault) => Err(fault),
     }
 }
@@ -78,36 +64,15 @@ fn run_list<H: Host + Drop, O: Out>(
     out: &mut O,
 ) -> Ended<H>
     requires { (H.state host).lent prefix.now ≡ false }
-    ensures reports { Reports (IsReportOf prefix.now) prefix.now result.status
+    ensures lists { Lists prefix.now result.status
         (record { host = H.state host; output = O.state out.old })
         (record { host = H.state result.host; output = O.state out.new }) }
     ensures trees { SameOfAll (H.state host).told (H.state result.host).told }
     ensures lent { SameOfAll (H.state host).lent (H.state result.host).lent }
 {
-    grammar_laws();
+    history_laws();
     let mut host = host;
     let report = list(alloc, &mut host, prefix);
-    let status = give(alloc, out, report, Some(prefix));
-    Ended { status, host }
-}
-
-/// Lists the revisions of the environment at a prefix, and puts the list out.
-fn run_revisions<H: Host + Drop, O: Out>(
-    alloc: Global,
-    prefix: &Prefix,
-    host: H,
-    out: &mut O,
-) -> Ended<H>
-    requires { (H.state host).lent prefix.now ≡ false }
-    ensures reports { Reports IsRevisionsOf prefix.now result.status
-        (record { host = H.state host; output = O.state out.old })
-        (record { host = H.state result.host; output = O.state out.new }) }
-    ensures trees { SameOfAll (H.state host).told (H.state result.host).told }
-    ensures lent { SameOfAll (H.state host).lent (H.state result.host).lent }
-{
-    grammar_laws();
-    let mut host = host;
-    let report = revisions(alloc, &mut host, prefix);
     let status = give(alloc, out, report, Some(prefix));
     Ended { status, host }
 }
@@ -132,10 +97,7 @@ pub fn run_one<H: Host + Drop, K: Clock, I: In, O: Out, R: Threads>(
 {
     match listed(command) {
         Some(prefix) => run_list(alloc, prefix, host, out),
-        None => match revised(command) {
-            Some(prefix) => run_revisions(alloc, prefix, host, out),
-            None => refuse(alloc, UNBUILT, host, out),
-        },
+        None => refuse(alloc, UNBUILT, host, out),
     }
 }
 

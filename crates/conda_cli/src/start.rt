@@ -8,8 +8,7 @@ pub const VERSION: &str = "conda 0.1.0\n";
 pub const HELP: &str = "\
 usage: conda [--root DIR] COMMAND ..
 
-  list -p PREFIX                lists the packages of the environment at PREFIX
-  list --revisions -p PREFIX    lists its revisions
+  list -p PREFIX    lists the packages of the environment at PREFIX
 
 --root DIR puts the folder DIR in front of every prefix.
 ";

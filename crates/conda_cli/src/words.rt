@@ -1,5 +1,5 @@
 ghost use Rattle.std.specs.Prelude.{◌≡◌, MatchOption, None, Some};
-ghost use Rattle.conda_cli.specs.Runs.{listed, revised, waits};
+ghost use Rattle.conda_cli.specs.Runs.{listed, waits};
 
 use conda_path::Prefix;
 use conda_words::{Command, Verb};
@@ -11,18 +11,6 @@ pub fn listed(command: &Command) -> Option<&Prefix>
 {
     match (command.verb, command.prefixes.as_slice()) {
         (Verb::List, [prefix]) => Some(prefix),
-        _ => None,
-    }
-}
-
-/// The prefix whose revisions a command lists, where it is `list --revisions -p PREFIX`. It takes no
-/// memory.
-pub fn revised(command: &Command) -> Option<&Prefix>
-    ensures { MatchOption result (revised command.now.verb command.now.prefixes ≡ None)
-        (λ prefix. revised command.now.verb command.now.prefixes ≡ Some prefix.now) }
-{
-    match (command.verb, command.prefixes.as_slice()) {
-        (Verb::Revisions, [prefix]) => Some(prefix),
         _ => None,
     }
 }

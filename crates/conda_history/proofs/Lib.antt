@@ -1,13 +1,4 @@
 pub mod StampLemmas
-pub mod MomentLemmas
-pub mod EndLemmas
-pub mod NewlineLemmas
 pub mod LineLemmas
-pub mod BlockLemmas
-pub mod RunLemmas
-pub mod HistoryLemmas
+pub mod TextLemmas
 pub mod SetLemmas
-pub mod ChangeLemmas
-pub mod TurnLemmas
-pub mod WrittenLemmas
-pub mod PushLemmas

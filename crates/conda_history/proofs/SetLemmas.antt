@@ -9,19 +9,18 @@ use Rattle.std.specs.BTreeMap.{is_at}
 use Rattle.std.specs.BTreeSet.{insert_key}
 use Rattle.std.specs.Set.{remove_key}
 use Rattle.std.proofs.lemmas.Bool.{false≢true, true≢false}
-use Rattle.conda_base.specs.Texts.{Ascending}
 use Rattle.conda_history.specs.declared.revision.Block.{Block}
-use Rattle.conda_history.specs.Sets.{IsIn, IsLeft, SpeaksOf, kept_by, set_after, set_of, set_with, with_all, without_all}
+use Rattle.conda_history.specs.Sets.{IsIn, IsLeft, Names, set_after, set_of, with_all, without_all}
 
-abbrev pub C : List ℕ → List ℕ → Ordering
+abbrev C : List ℕ → List ℕ → Ordering
 C = slice_cmp nat_cmp
 
-abbrev pub Sorted : List (List ℕ) → Type 0
+abbrev Sorted : List (List ℕ) → Type 0
 Sorted xs = IsStrictlySortedBy C xs
 
 -- ---- the order
 
-pub same_of : (x y : List ℕ) → C x y ≡ Equal → x ≡ y
+same_of : (x y : List ℕ) → C x y ≡ Equal → x ≡ y
 same_of x y h = (bytes_decides x y).0 (texts_ties x y ∙ ap is_eq h)
 
 tie_of : (x : List ℕ) → C x x ≡ Equal
@@ -32,10 +31,10 @@ tie_of x = by (C x x) (sym (texts_ties x x) ∙ (bytes_decides x x).1 refl)
     by Equal h = refl
     by Greater h = absurd (false≢true h)
 
-pub never_below : (x : List ℕ) → C x x ≡ Less → ⊥
+never_below : (x : List ℕ) → C x x ≡ Less → ⊥
 never_below x h = let e : C x x ≡ Equal = tie_of x in absurd (cc)
 
-pub turned : (x y : List ℕ) → C x y ≡ Greater → C y x ≡ Less
+turned : (x y : List ℕ) → C x y ≡ Greater → C y x ≡ Less
 turned x y h = by (C y x) (sym h ∙ nat_list_cmp_total.antisymm x y)
   where
     by : (o : Ordering) → Greater ≡ ordering_reverse o → o ≡ Less
@@ -45,7 +44,7 @@ turned x y h = by (C y x) (sym h ∙ nat_list_cmp_total.antisymm x y)
 
 -- ---- one dist
 
-pub all_of : {P Q : List ℕ → Type 0} (xs : List (List ℕ)) → ((x : List ℕ) → P x → Q x) → AllByRecursion P xs → AllByRecursion Q xs
+all_of : {P Q : List ℕ → Type 0} (xs : List (List ℕ)) → ((x : List ℕ) → P x → Q x) → AllByRecursion P xs → AllByRecursion Q xs
 all_of [] f h = tt
 all_of (x ∷ xs) f h = (f x h.0, all_of xs f h.1)
 
@@ -58,7 +57,7 @@ all_insert P k (x ∷ xs) h p = by (C k x) (all_insert P k xs h.1 p)
     by Equal r = h
     by Greater r = (h.0, r)
 
-pub sorted_insert : (k : List ℕ) (xs : List (List ℕ)) → Sorted xs → Sorted (insert_key C xs k)
+sorted_insert : (k : List ℕ) (xs : List (List ℕ)) → Sorted xs → Sorted (insert_key C xs k)
 unfolding IsStrictlySortedBy
 sorted_insert k [] h = (tt, tt)
 sorted_insert k (x ∷ xs) h = by (C k x) refl (sorted_insert k xs h.1)
@@ -76,7 +75,7 @@ all_remove P k (x ∷ xs) h = by (is_eq (C k x)) (all_remove P k xs h.1)
     by true r = h.1
     by false r = (h.0, r)
 
-pub sorted_remove : (k : List ℕ) (xs : List (List ℕ)) → Sorted xs → Sorted (remove_key (is_at (C k)) xs)
+sorted_remove : (k : List ℕ) (xs : List (List ℕ)) → Sorted xs → Sorted (remove_key (is_at (C k)) xs)
 unfolding IsStrictlySortedBy
 sorted_remove k [] h = h
 sorted_remove k (x ∷ xs) h = by (is_eq (C k x)) (sorted_remove k xs h.1)
@@ -85,7 +84,7 @@ sorted_remove k (x ∷ xs) h = by (is_eq (C k x)) (sorted_remove k xs h.1)
     by true r = h.1
     by false r = (all_remove (λ y. C x y ≡ Less) k xs h.0, r)
 
-pub in_insert : (d k : List ℕ) (xs : List (List ℕ)) → IsIn d (insert_key C xs k) → (d ≡ k) ⊎ IsIn d xs
+in_insert : (d k : List ℕ) (xs : List (List ℕ)) → IsIn d (insert_key C xs k) → (d ≡ k) ⊎ IsIn d xs
 in_insert d k [] h = h
 in_insert d k (x ∷ xs) h = by (C k x) h (in_insert d k xs)
   where
@@ -102,7 +101,7 @@ in_insert d k (x ∷ xs) h = by (C k x) h (in_insert d k xs)
     by Equal g f = inr g
     by Greater g f = under g f
 
-pub insert_in : (d k : List ℕ) (xs : List (List ℕ)) → (d ≡ k) ⊎ IsIn d xs → IsIn d (insert_key C xs k)
+insert_in : (d k : List ℕ) (xs : List (List ℕ)) → (d ≡ k) ⊎ IsIn d xs → IsIn d (insert_key C xs k)
 insert_in d k [] h = h
 insert_in d k (x ∷ xs) h = by (C k x) refl h (insert_in d k xs)
   where
@@ -132,7 +131,7 @@ tied x y h = (bytes_decides x y).0 (texts_ties x y ∙ h)
 untied : (x y : List ℕ) → is_eq (C x y) ≡ false → x ≡ y → ⊥
 untied x y h e = true≢false (sym ((bytes_decides x y).1 e) ∙ texts_ties x y ∙ h)
 
-pub in_remove : (d k : List ℕ) (xs : List (List ℕ)) → Sorted xs → IsIn d (remove_key (is_at (C k)) xs) → IsIn d xs × (d ≢ k)
+in_remove : (d k : List ℕ) (xs : List (List ℕ)) → Sorted xs → IsIn d (remove_key (is_at (C k)) xs) → IsIn d xs × (d ≢ k)
 unfolding IsStrictlySortedBy
 in_remove d k [] s h = absurd h
 in_remove d k (x ∷ xs) s h = by (is_eq (C k x)) refl h (in_remove d k xs s.1)
@@ -148,7 +147,7 @@ in_remove d k (x ∷ xs) s h = by (is_eq (C k x)) refl h (in_remove d k xs s.1)
     by true e g f = (inr g, later (tied k x e) g)
     by false e g f = kept e g f
 
-pub remove_in : (d k : List ℕ) (xs : List (List ℕ)) → IsIn d xs → d ≢ k → IsIn d (remove_key (is_at (C k)) xs)
+remove_in : (d k : List ℕ) (xs : List (List ℕ)) → IsIn d xs → d ≢ k → IsIn d (remove_key (is_at (C k)) xs)
 remove_in d k [] h n = absurd h
 remove_in d k (x ∷ xs) h n = by (is_eq (C k x)) refl h (λ i. remove_in d k xs i n)
   where
@@ -166,15 +165,15 @@ remove_in d k (x ∷ xs) h n = by (is_eq (C k x)) refl h (λ i. remove_in d k xs
 
 -- ---- one block
 
-pub sorted_with : (ds set : List (List ℕ)) → Sorted set → Sorted (with_all set ds)
+sorted_with : (ds set : List (List ℕ)) → Sorted set → Sorted (with_all set ds)
 sorted_with [] set s = s
 sorted_with (d ∷ ds) set s = sorted_with ds (insert_key C set d) (sorted_insert d set s)
 
-pub sorted_without : (ds set : List (List ℕ)) → Sorted set → Sorted (without_all set ds)
+sorted_without : (ds set : List (List ℕ)) → Sorted set → Sorted (without_all set ds)
 sorted_without [] set s = s
 sorted_without (d ∷ ds) set s = sorted_without ds (remove_key (is_at (C d)) set) (sorted_remove d set s)
 
-pub in_with : (d : List ℕ) (ds set : List (List ℕ)) → IsIn d (with_all set ds) → IsIn d ds ⊎ IsIn d set
+in_with : (d : List ℕ) (ds set : List (List ℕ)) → IsIn d (with_all set ds) → IsIn d ds ⊎ IsIn d set
 in_with d [] set h = inr h
 in_with d (e ∷ ds) set h = by (in_with d ds (insert_key C set e) h)
   where
@@ -186,14 +185,14 @@ in_with d (e ∷ ds) set h = by (in_with d ds (insert_key C set e) h)
     by (inl q) = inl (inr q)
     by (inr q) = old (in_insert d e set q)
 
-pub with_in : (d : List ℕ) (ds set : List (List ℕ)) → IsIn d ds ⊎ IsIn d set → IsIn d (with_all set ds)
+with_in : (d : List ℕ) (ds set : List (List ℕ)) → IsIn d ds ⊎ IsIn d set → IsIn d (with_all set ds)
 with_in d [] set (inl h) = absurd h
 with_in d [] set (inr h) = h
 with_in d (e ∷ ds) set (inl (inl q)) = with_in d ds (insert_key C set e) (inr (insert_in d e set (inl q)))
 with_in d (e ∷ ds) set (inl (inr q)) = with_in d ds (insert_key C set e) (inl q)
 with_in d (e ∷ ds) set (inr q) = with_in d ds (insert_key C set e) (inr (insert_in d e set (inr q)))
 
-pub in_without : (d : List ℕ) (ds set : List (List ℕ)) → Sorted set → IsIn d (without_all set ds) → IsIn d set × (IsIn d ds → ⊥)
+in_without : (d : List ℕ) (ds set : List (List ℕ)) → Sorted set → IsIn d (without_all set ds) → IsIn d set × (IsIn d ds → ⊥)
 in_without d [] set s h = (h, λ i. absurd i)
 in_without d (e ∷ ds) set s h =
     let r = in_without d ds (remove_key (is_at (C e)) set) (sorted_remove e set s) h in
@@ -204,11 +203,11 @@ in_without d (e ∷ ds) set s h =
     by p q (inl g) = p g
     by p q (inr g) = q g
 
-pub without_in : (d : List ℕ) (ds set : List (List ℕ)) → IsIn d set → (IsIn d ds → ⊥) → IsIn d (without_all set ds)
+without_in : (d : List ℕ) (ds set : List (List ℕ)) → IsIn d set → (IsIn d ds → ⊥) → IsIn d (without_all set ds)
 without_in d [] set h n = h
 without_in d (e ∷ ds) set h n = without_in d ds (remove_key (is_at (C e)) set) (remove_in d e set h (λ q. n (inl q))) (λ q. n (inr q))
 
-pub decided : (d : List ℕ) (ds : List (List ℕ)) → IsIn d ds ⊎ (IsIn d ds → ⊥)
+decided : (d : List ℕ) (ds : List (List ℕ)) → IsIn d ds ⊎ (IsIn d ds → ⊥)
 decided d [] = inr (λ i. absurd i)
 decided d (e ∷ ds) = by (is_eq (C d e)) refl (decided d ds)
   where
@@ -221,48 +220,20 @@ decided d (e ∷ ds) = by (is_eq (C d e)) refl (decided d ds)
     by false q (inl r) = inl (inr r)
     by false q (inr r) = inr (neither (untied d e q) r)
 
--- ---- the set after one block
-
-sorted_kept : (b : Block) (set : List (List ℕ)) → Sorted set → Sorted (kept_by b set)
-unfolding IsStrictlySortedBy
-sorted_kept b set s = by b.whole
-  where
-    by : (v : Bool) → Sorted (cond v [] (without_all set b.removed))
-    by true = tt
-    by false = sorted_without b.removed set s
-
-pub sorted_step : (b : Block) (set : List (List ℕ)) → Sorted set → Sorted (set_with set b)
-sorted_step b set s = sorted_with b.added (kept_by b set) (sorted_kept b set s)
-
--- what a block keeps was there, and the block doesn't speak of it
-pub in_kept : (d : List ℕ) (b : Block) (set : List (List ℕ)) → Sorted set → IsIn d (kept_by b set)
-    → IsIn d set × (b.whole ≡ false) × (IsIn d b.removed → ⊥)
-in_kept d b set s h = by b.whole refl h
-  where
-    by : (v : Bool) → b.whole ≡ v → IsIn d (cond v [] (without_all set b.removed)) → IsIn d set × (b.whole ≡ false) × (IsIn d b.removed → ⊥)
-    by true e g = absurd g
-    by false e g = let r = in_without d b.removed set s g in (r.0, e, r.1)
-
-pub kept_in : (d : List ℕ) (b : Block) (set : List (List ℕ)) → IsIn d set → b.whole ≡ false → (IsIn d b.removed → ⊥) → IsIn d (kept_by b set)
-kept_in d b set h e n = by b.whole e
-  where
-    by : (v : Bool) → v ≡ false → IsIn d (cond v [] (without_all set b.removed))
-    by true e = absurd (true≢false e)
-    by false e = without_in d b.removed set h n
-
 -- ---- all blocks
 
-abbrev Unspoken : List ℕ → List Block → Type 0
-Unspoken d bs = AllByRecursion (λ b. ¬ SpeaksOf b d) bs
+abbrev Unnamed : List ℕ → List Block → Type 0
+Unnamed d bs = AllByRecursion (λ b. ¬ Names b d) bs
 
--- the set before, where no block speaks of the dist
+-- the set before, where no block names the dist
 abbrev Stays : List ℕ → List (List ℕ) → List Block → Type 0
-Stays d set bs = IsIn d set × Unspoken d bs
+Stays d set bs = IsIn d set × Unnamed d bs
 
 sorted_after : (bs : List Block) (set : List (List ℕ)) → Sorted set → Sorted (set_after set bs)
 unfolding set_after
 sorted_after [] set s = s
-sorted_after (b ∷ bs) set s = sorted_after bs (set_with set b) (sorted_step b set s)
+sorted_after (b ∷ bs) set s =
+    sorted_after bs (with_all (without_all set b.removed) b.added) (sorted_with b.added (without_all set b.removed) (sorted_without b.removed set s))
 
 left_after : (d : List ℕ) (b : Block) (bs : List Block) → IsLeft bs d → IsLeft (b ∷ bs) d
 left_after d b bs h = (b ∷ h.0, h.1, h.2, ap (λ r. b ∷ r) h.3, h.4, h.5)
@@ -270,31 +241,24 @@ left_after d b bs h = (b ∷ h.0, h.1, h.2, ap (λ r. b ∷ r) h.3, h.4, h.5)
 in_after : (d : List ℕ) (bs : List Block) (set : List (List ℕ)) → Sorted set → IsIn d (set_after set bs) → IsLeft bs d ⊎ Stays d set bs
 unfolding set_after
 in_after d [] set s h = inr (h, tt)
-in_after d (b ∷ bs) set s h = by (in_after d bs (set_with set b) (sorted_step b set s) h)
+in_after d (b ∷ bs) set s h =
+    by (in_after d bs (with_all (without_all set b.removed) b.added) (sorted_with b.added (without_all set b.removed) (sorted_without b.removed set s)) h)
   where
-    unspoken : b.whole ≡ false → (IsIn d b.removed → ⊥) → (IsIn d b.added → ⊥) → SpeaksOf b d → ⊥
-    unspoken w p q (inl g) = true≢false (sym g ∙ w)
-    unspoken w p q (inr (inl g)) = p g
-    unspoken w p q (inr (inr g)) = q g
+    unnamed : (IsIn d b.removed → ⊥) → (IsIn d b.added → ⊥) → Names b d → ⊥
+    unnamed p q (inl g) = p g
+    unnamed p q (inr g) = q g
 
-    old : Unspoken d bs → (IsIn d b.added → ⊥) → IsIn d b.added ⊎ IsIn d (kept_by b set) → IsLeft (b ∷ bs) d ⊎ Stays d set (b ∷ bs)
+    old : Unnamed d bs → (IsIn d b.added → ⊥) → IsIn d b.added ⊎ IsIn d (without_all set b.removed) → IsLeft (b ∷ bs) d ⊎ Stays d set (b ∷ bs)
     old u n (inl g) = absurd (n g)
-    old u n (inr g) = let r = in_kept d b set s g in inr (r.0, (unspoken r.1 r.2 n, u))
+    old u n (inr g) = let r = in_without d b.removed set s g in inr (r.0, (unnamed r.1 n, u))
 
-    here : Unspoken d bs → IsIn d (set_with set b) → IsIn d b.added ⊎ (IsIn d b.added → ⊥) → IsLeft (b ∷ bs) d ⊎ Stays d set (b ∷ bs)
+    here : Unnamed d bs → IsIn d (with_all (without_all set b.removed) b.added) → IsIn d b.added ⊎ (IsIn d b.added → ⊥) → IsLeft (b ∷ bs) d ⊎ Stays d set (b ∷ bs)
     here u i (inl g) = inl ([], b, bs, refl, g, u)
-    here u i (inr n) = old u n (in_with d b.added (kept_by b set) i)
+    here u i (inr n) = old u n (in_with d b.added (without_all set b.removed) i)
 
-    by : IsLeft bs d ⊎ Stays d (set_with set b) bs → IsLeft (b ∷ bs) d ⊎ Stays d set (b ∷ bs)
+    by : IsLeft bs d ⊎ Stays d (with_all (without_all set b.removed) b.added) bs → IsLeft (b ∷ bs) d ⊎ Stays d set (b ∷ bs)
     by (inl g) = inl (left_after d b bs g)
     by (inr g) = here g.1 g.0 (decided d b.added)
-
-not_whole : (b : Block) (d : List ℕ) → (SpeaksOf b d → ⊥) → b.whole ≡ false
-not_whole b d n = by b.whole refl
-  where
-    by : (v : Bool) → b.whole ≡ v → v ≡ false
-    by true e = absurd (n (inl e))
-    by false e = refl
 
 after_in : (d : List ℕ) (bs : List Block) (set : List (List ℕ)) → IsLeft bs d ⊎ Stays d set bs → IsIn d (set_after set bs)
 unfolding set_after
@@ -304,24 +268,20 @@ after_in d [] set (inl h) = by h.0 h.3
     by [] e = cc
     by (b ∷ before) e = cc
 after_in d [] set (inr h) = h.0
-after_in d (b ∷ bs) set (inl h) = by h.0 h.3 (after_in d bs (set_with set b))
+after_in d (b ∷ bs) set (inl h) = by h.0 h.3 (after_in d bs (with_all (without_all set b.removed) b.added))
   where
-    by : (before : List Block) → b ∷ bs ≡ before ++ h.1 ∷ h.2 → (IsLeft bs d ⊎ Stays d (set_with set b) bs → IsIn d (set_after (set_with set b) bs)) → IsIn d (set_after (set_with set b) bs)
+    by : (before : List Block) → b ∷ bs ≡ before ++ h.1 ∷ h.2 → (IsLeft bs d ⊎ Stays d (with_all (without_all set b.removed) b.added) bs → IsIn d (set_after (with_all (without_all set b.removed) b.added) bs)) → IsIn d (set_after (with_all (without_all set b.removed) b.added) bs)
     by [] e f =
         let same : h.1 ≡ b = cc in
         let rest : h.2 ≡ bs = cc in
         let A : Block → Type 0 = λ c. IsIn d c.added in
-        f (inr (with_in d b.added (kept_by b set) (inl (subst A same h.4)), subst (Unspoken d) rest h.5))
+        f (inr (with_in d b.added (without_all set b.removed) (inl (subst A same h.4)), subst (Unnamed d) rest h.5))
     by (c ∷ before) e f =
         let rest : bs ≡ before ++ h.1 ∷ h.2 = cc in
         f (inl (before, h.1, h.2, rest, h.4, h.5))
 after_in d (b ∷ bs) set (inr h) =
-    after_in d bs (set_with set b)
-    (inr (
-      with_in d b.added (kept_by b set)
-          (inr (kept_in d b set h.0 (not_whole b d h.1.0) (λ i. h.1.0 (inr (inl i))))),
-      h.1.1,
-    ))
+    after_in d bs (with_all (without_all set b.removed) b.added)
+    (inr (with_in d b.added (without_all set b.removed) (inr (without_in d b.removed set h.0 (λ i. h.1.0 (inl i)))), h.1.1))
 
 pub members : (bs : List Block) (d : List ℕ) → IsIn d (set_of bs) ↔ IsLeft bs d
 unfolding IsStrictlySortedBy
@@ -331,68 +291,6 @@ members bs d = (λ h. by (in_after d bs [] tt h), λ h. after_in d bs [] (inl h)
     by (inl g) = g
     by (inr g) = absurd g.0
 
--- ---- two words for ascending
-
-pub empty_sorted : Sorted []
+pub ascending : (bs : List Block) → Sorted (set_of bs)
 unfolding IsStrictlySortedBy
-empty_sorted = tt
-
--- the first comes before each of the others
-before_all : (x y : List ℕ) (ys : List (List ℕ)) → C x y ≡ Less → AllByRecursion (λ z. C y z ≡ Less) ys → AllByRecursion (λ z. C x z ≡ Less) (y ∷ ys)
-before_all x y ys e h = (e, all_of ys (λ z q. nat_list_cmp_total.trans x y z e q) h)
-
-pub sorted_ascend : (xs : List (List ℕ)) → Ascending xs → Sorted xs
-unfolding IsStrictlySortedBy
-sorted_ascend [] h = tt
-sorted_ascend (x ∷ []) h = (tt, tt)
-sorted_ascend (x ∷ y ∷ ys) h = let r = sorted_ascend (y ∷ ys) h.1 in (before_all x y ys h.0 r.0, r)
-
-pub ascend_sorted : (xs : List (List ℕ)) → Sorted xs → Ascending xs
-unfolding IsStrictlySortedBy
-ascend_sorted [] h = tt
-ascend_sorted (x ∷ []) h = (tt, tt)
-ascend_sorted (x ∷ y ∷ ys) h = (h.0.0, ascend_sorted (y ∷ ys) h.1)
-
-pub ascending : (bs : List Block) → Ascending (set_of bs)
-unfolding IsStrictlySortedBy
-ascending bs = ascend_sorted (set_of bs) (sorted_after bs [] tt)
-
--- ---- a sorted list is known by its members
-
--- what is in both a list and its rest's bounds
-not_in_rest : (x : List ℕ) (xs : List (List ℕ)) → AllByRecursion (λ y. C x y ≡ Less) xs → IsIn x xs → ⊥
-not_in_rest x xs h i = never_below x (behind x x xs h i)
-
-first_least : (x y : List ℕ) (xs ys : List (List ℕ)) → AllByRecursion (λ z. C y z ≡ Less) ys → IsIn x (y ∷ ys) → (x ≡ y) ⊎ (C y x ≡ Less)
-first_least x y xs ys h (inl e) = inl e
-first_least x y xs ys h (inr i) = inr (behind y x ys h i)
-
-both_below : (x y : List ℕ) → C y x ≡ Less → C x y ≡ Less → ⊥
-both_below x y p q = never_below x (nat_list_cmp_total.trans x y x q p)
-
-same_first : (x y : List ℕ) (xs ys : List (List ℕ)) → AllByRecursion (λ z. C x z ≡ Less) xs → AllByRecursion (λ z. C y z ≡ Less) ys
-    → IsIn x (y ∷ ys) → IsIn y (x ∷ xs) → x ≡ y
-same_first x y xs ys h g i j = by (first_least x y xs ys g i) (first_least y x ys xs h j)
-  where
-    by : (x ≡ y) ⊎ (C y x ≡ Less) → (y ≡ x) ⊎ (C x y ≡ Less) → x ≡ y
-    by (inl e) r = e
-    by (inr p) (inl e) = sym e
-    by (inr p) (inr q) = absurd (both_below x y p q)
-
-pub same_members : (xs ys : List (List ℕ)) → Sorted xs → Sorted ys → ((d : List ℕ) → IsIn d xs → IsIn d ys) → ((d : List ℕ) → IsIn d ys → IsIn d xs) → xs ≡ ys
-unfolding IsStrictlySortedBy
-same_members [] [] s t f g = refl
-same_members [] (y ∷ ys) s t f g = absurd (g y (inl refl))
-same_members (x ∷ xs) [] s t f g = absurd (f x (inl refl))
-same_members (x ∷ xs) (y ∷ ys) s t f g =
-    let first : x ≡ y = same_first x y xs ys s.0 t.0 (f x (inl refl)) (g y (inl refl)) in
-    let rest : xs ≡ ys = same_members xs ys s.1 t.1 (λ d i. forth first d i (f d (inr i))) (λ d i. back first d i (g d (inr i))) in
-    cc
-  where
-    forth : x ≡ y → (d : List ℕ) → IsIn d xs → (d ≡ y) ⊎ IsIn d ys → IsIn d ys
-    forth e d i (inl q) = absurd (not_in_rest x xs s.0 (let P : List ℕ → Type 0 = λ z. IsIn z xs in subst P (q ∙ sym e) i))
-    forth e d i (inr q) = q
-
-    back : x ≡ y → (d : List ℕ) → IsIn d ys → (d ≡ x) ⊎ IsIn d xs → IsIn d xs
-    back e d i (inl q) = absurd (not_in_rest y ys t.0 (let P : List ℕ → Type 0 = λ z. IsIn z ys in subst P (q ∙ e) i))
-    back e d i (inr q) = q
+ascending bs = sorted_after bs [] tt

@@ -1,5 +1,5 @@
--- The text of a moment is read as its stamp, and what is read as a stamp is its text.
-use Rattle.std.proofs.Common.{◌≡◌, ℕ, ◌+◌, ◌-◌, ◌*◌, ◌/◌, ◌%◌, ◌≤◌, Bool, true, false, ◌&&◌, ◌||◌, cond, eqb, List, Some, None, refl, sym, ap, ◌∙◌, arith, subst, get_or}
+-- A header line is read as its stamp, and what is read as a stamp is its header line.
+use Rattle.std.proofs.Common.{◌≡◌, ℕ, ◌+◌, ◌-◌, ◌*◌, ◌/◌, ◌%◌, ◌≤◌, Bool, true, false, ◌&&◌, ◌||◌, cond, eqb, List, [], Some, None, refl, sym, ap, ◌∙◌, arith, subst, get_or}
 use Rattle.std.specs.Prelude.{ℤ, nat_eq, pos}
 use Rattle.std.specs.Char.{is_ascii_digit}
 use Rattle.std.specs.Cmp.Lexicographic.{bytes_decides, pointwise}
@@ -8,7 +8,7 @@ use Rattle.std.proofs.lemmas.Bool.{false≢true, le-leb, leb-true}
 use Rattle.std.proofs.lemmas.Int.{ints}
 use Rattle.jiff_core.specs.Calendar.{IsDate, days_in_month, is_leap_year}
 use Rattle.jiff_core.specs.Time.{IsTime}
-use Rattle.conda_history.specs.Stamps.{Exists, IsShort, exists, moment_text, stamp_at, stamp_of, two_at}
+use Rattle.conda_history.specs.Stamps.{Exists, IsShort, exists, header_text, stamp_at, stamp_of, two_at}
 use Rattle.conda_history.specs.declared.stamp.Stamp.{Stamp}
 
 some_same : (a b : Stamp) → Some a ≡ Some b → a ≡ b
@@ -39,19 +39,19 @@ two_back n h =
 stamp : ℕ → ℕ → ℕ → ℕ → ℕ → ℕ → Stamp
 stamp y m d h mi s = record { year = y; month = m; day = d; hour = h; minute = mi; second = s }
 
--- the numbers of a moment are those of its stamp
-pub stamp_back : (s : Stamp) → IsShort s → stamp_at (moment_text s) ≡ s
+-- the numbers of a header line are those of its stamp
+pub stamp_back : (s : Stamp) → IsShort s → stamp_at (header_text s) ≡ s
 unfolding stamp
 stamp_back s h =
     let century = two_back (s.year / 100) (omega (arith, h.year)) in
     let years = two_back (s.year % 100) (omega arith) in
-    let year : (stamp_at (moment_text s)).year ≡ s.year = omega (arith, century, years) in
-    let month : (stamp_at (moment_text s)).month ≡ s.month = two_back s.month h.month in
-    let day : (stamp_at (moment_text s)).day ≡ s.day = two_back s.day h.day in
-    let hour : (stamp_at (moment_text s)).hour ≡ s.hour = two_back s.hour h.hour in
-    let minute : (stamp_at (moment_text s)).minute ≡ s.minute = two_back s.minute h.minute in
-    let second : (stamp_at (moment_text s)).second ≡ s.second = two_back s.second h.second in
-    same (stamp_at (moment_text s)) s year month day hour minute second
+    let year : (stamp_at (header_text s)).year ≡ s.year = omega (arith, century, years) in
+    let month : (stamp_at (header_text s)).month ≡ s.month = two_back s.month h.month in
+    let day : (stamp_at (header_text s)).day ≡ s.day = two_back s.day h.day in
+    let hour : (stamp_at (header_text s)).hour ≡ s.hour = two_back s.hour h.hour in
+    let minute : (stamp_at (header_text s)).minute ≡ s.minute = two_back s.minute h.minute in
+    let second : (stamp_at (header_text s)).second ≡ s.second = two_back s.second h.second in
+    same (stamp_at (header_text s)) s year month day hour minute second
   where
     same : (a b : Stamp) → a.year ≡ b.year → a.month ≡ b.month → a.day ≡ b.day → a.hour ≡ b.hour → a.minute ≡ b.minute → a.second ≡ b.second → a ≡ b
     same a b p q r t u v =
@@ -157,34 +157,34 @@ two_le line at = omega (arith, digit_le (get_or line at 0), digit_le (get_or lin
 
 pub short_at : (line : List ℕ) → IsShort (stamp_at line)
 short_at line = record {
-  year = omega (arith, two_le line 0, two_le line 2);
-  month = two_le line 5;
-  day = two_le line 8;
-  hour = two_le line 11;
-  minute = two_le line 14;
-  second = two_le line 17;
+  year = omega (arith, two_le line 4, two_le line 6);
+  month = two_le line 9;
+  day = two_le line 12;
+  hour = two_le line 15;
+  minute = two_le line 18;
+  second = two_le line 21;
 }
 
--- what is read is the text of a stamp that exists
-pub moment_found : (line : List ℕ) (s : Stamp) → stamp_of line ≡ Some s → (line ≡ moment_text s) × Exists s
+-- what is read is the header line of a stamp that exists
+pub header_found : (line : List ℕ) (s : Stamp) → IsShort (stamp_at line) → stamp_of line ≡ Some s → (line ≡ header_text s) × Exists s
 unfolding stamp_of
-moment_found line s h = by (pointwise nat_eq line (moment_text (stamp_at line)) && exists (stamp_at line)) refl h
+header_found line s short h = by (pointwise nat_eq line (header_text (stamp_at line)) && exists (stamp_at line)) refl h
   where
-    by : (v : Bool) → pointwise nat_eq line (moment_text (stamp_at line)) && exists (stamp_at line) ≡ v → cond v (Some (stamp_at line)) None ≡ Some s → (line ≡ moment_text s) × Exists s
+    by : (v : Bool) → pointwise nat_eq line (header_text (stamp_at line)) && exists (stamp_at line) ≡ v → cond v (Some (stamp_at line)) None ≡ Some s → (line ≡ header_text s) × Exists s
     by true e g =
-        let both = and_true (pointwise nat_eq line (moment_text (stamp_at line))) (exists (stamp_at line)) e in
+        let both = and_true (pointwise nat_eq line (header_text (stamp_at line))) (exists (stamp_at line)) e in
         let same : stamp_at line ≡ s = some_same (stamp_at line) s g in
-        ((bytes_decides line (moment_text (stamp_at line))).0 both.0 ∙ ap moment_text same, subst Exists same (exists_is (stamp_at line) (short_at line) both.1))
+        ((bytes_decides line (header_text (stamp_at line))).0 both.0 ∙ ap header_text same, subst Exists same (exists_is (stamp_at line) short both.1))
     by false e g = cc
 
--- the text of a stamp that exists is read
-pub moment_read : (s : Stamp) → Exists s → stamp_of (moment_text s) ≡ Some s
+-- the header line of a stamp that exists is read
+pub header_read : (s : Stamp) → Exists s → stamp_of (header_text s) ≡ Some s
 unfolding stamp_of
-moment_read s e =
+header_read s e =
     let back = stamp_back s (short_of s e) in
-    let P : Stamp → Type 0 = λ t. cond (pointwise nat_eq (moment_text s) (moment_text t) && exists t) (Some t) None ≡ Some s in
+    let P : Stamp → Type 0 = λ t. cond (pointwise nat_eq (header_text s) (header_text t) && exists t) (Some t) None ≡ Some s in
     subst P (sym back)
-    (rw (true_and (pointwise nat_eq (moment_text s) (moment_text s)) (exists s) ((bytes_decides (moment_text s) (moment_text s)).1 refl) (is_exists s e)) refl)
+    (rw (true_and (pointwise nat_eq (header_text s) (header_text s)) (exists s) ((bytes_decides (header_text s) (header_text s)).1 refl) (is_exists s e)) refl)
 
 -- a test that says whether the date and the time exist answers as the definition does
 pub exists_same : (s : Stamp) → IsShort s → (b : Bool) → (b ≡ true → IsDate (pos s.year) (pos s.month) (pos s.day) × IsTime (pos s.hour) (pos s.minute) (pos s.second) (pos 0)) → (IsDate (pos s.year) (pos s.month) (pos s.day) × IsTime (pos s.hour) (pos s.minute) (pos s.second) (pos 0) → b ≡ true) → b ≡ exists s
@@ -196,20 +196,24 @@ exists_same s short false f g = by (exists s) refl
     by false e = refl
 
 -- the three answers of the reader
-pub other_text : (line : List ℕ) (s : Stamp) → s ≡ stamp_at line → pointwise nat_eq line (moment_text s) ≡ false → stamp_of line ≡ None
+pub other_text : (line : List ℕ) (s : Stamp) → s ≡ stamp_at line → pointwise nat_eq line (header_text s) ≡ false → stamp_of line ≡ None
 unfolding stamp_of
 other_text line s e h =
-    let P : Stamp → Type 0 = λ t. cond (pointwise nat_eq line (moment_text t) && exists t) (Some t) None ≡ None in
+    let P : Stamp → Type 0 = λ t. cond (pointwise nat_eq line (header_text t) && exists t) (Some t) None ≡ None in
     subst P e (rw h refl)
 
-pub no_moment : (line : List ℕ) (s : Stamp) → s ≡ stamp_at line → pointwise nat_eq line (moment_text s) ≡ true → exists s ≡ false → stamp_of line ≡ None
+pub no_moment : (line : List ℕ) (s : Stamp) → s ≡ stamp_at line → pointwise nat_eq line (header_text s) ≡ true → exists s ≡ false → stamp_of line ≡ None
 unfolding stamp_of
 no_moment line s e h g =
-    let P : Stamp → Type 0 = λ t. cond (pointwise nat_eq line (moment_text t) && exists t) (Some t) None ≡ None in
+    let P : Stamp → Type 0 = λ t. cond (pointwise nat_eq line (header_text t) && exists t) (Some t) None ≡ None in
     subst P e (rw (h, g) refl)
 
-pub a_moment : (line : List ℕ) (s : Stamp) → s ≡ stamp_at line → pointwise nat_eq line (moment_text s) ≡ true → exists s ≡ true → stamp_of line ≡ Some s
+pub a_moment : (line : List ℕ) (s : Stamp) → s ≡ stamp_at line → pointwise nat_eq line (header_text s) ≡ true → exists s ≡ true → stamp_of line ≡ Some s
 unfolding stamp_of
 a_moment line s e h g =
-    let P : Stamp → Type 0 = λ t. cond (pointwise nat_eq line (moment_text t) && exists t) (Some t) None ≡ Some s in
+    let P : Stamp → Type 0 = λ t. cond (pointwise nat_eq line (header_text t) && exists t) (Some t) None ≡ Some s in
     subst P e (rw (h, g) refl)
+
+pub empty_none : stamp_of [] ≡ None
+unfolding stamp_of
+empty_none = refl

@@ -1,9 +1,4 @@
 pub mod Stamps
-pub mod Lines
-pub mod Says
-pub mod Sets
-pub mod Names
 pub mod Blocks
+pub mod Sets
 pub mod Reading
-pub mod Texts
-pub mod Faults

@@ -1,106 +1,101 @@
 -- The reader as a function: the lines in their order, and the blocks so far.
-use Rattle.std.specs.Prelude.{ℕ, ◌+◌, Bool, true, false, ◌&&◌, not, if◌then◌else◌, List, [], ◌∷◌, ◌++◌, Option, Some, None, option_and_then, Ok, Err}
-use Rattle.std.specs.Ordering.{nat_cmp}
-use Rattle.std.specs.Cmp.Lexicographic.{slice_cmp}
-use Rattle.std.specs.BTreeMap.{is_at}
-use Rattle.std.specs.BTreeSet.{insert_key}
-use Rattle.std.specs.Set.{remove_key}
-use Rattle.conda_base.specs.Reads.{Read, ◌>>=◌}
+use Rattle.std.specs.Prelude.{◌≡◌, ℕ, Bool, false, ◌==◌, if◌then◌else◌, List, [], ◌∷◌, ◌++◌, MatchResult, Option, Some, None, Result, option_map, option_and_then}
+use Rattle.std.specs.List.{slice_split}
+use Rattle.std.specs.Str.{is_utf8}
+use Rattle.conda_base.specs.Signs.{dash, newline, plus}
 use Rattle.conda_base.specs.Texts.{is_empty}
+use Rattle.conda_path.specs.Dists.{is_dist}
 use Rattle.conda_history.specs.declared.line.Line.{Line}
-use Rattle.conda_history.specs.declared.line.Line.TheVariants.{Nothing, Header, Removed, Added, Plain}
+use Rattle.conda_history.specs.declared.line.Line.TheVariants.{Header, Removed, Added}
+use Rattle.conda_history.specs.declared.read.Made.{Made}
 use Rattle.conda_history.specs.declared.revision.Block.{Block}
-use Rattle.conda_history.specs.declared.revision.History.{History}
-use Rattle.conda_history.specs.declared.read.Open.{Open}
-use Rattle.conda_history.specs.declared.read.Reading.{Reading}
+use Rattle.conda_history.specs.declared.revision.HistoryErr.{HistoryErr}
+use Rattle.conda_history.specs.declared.revision.HistoryErr.TheVariants.{BadHistory, Memory}
 use Rattle.conda_history.specs.declared.stamp.Stamp.{Stamp}
-use Rattle.conda_history.specs.Lines.{line_of}
-use Rattle.conda_history.specs.Names.{Names}
-use Rattle.conda_history.specs.Says.{lines_of}
+use Rattle.conda_history.specs.Stamps.{stamp_of}
 
--- an ascending list with a dist put in, at its place unless it's there
-abbrev pub put_in : List ℕ → List (List ℕ) → List (List ℕ)
-put_in dist set = insert_key (slice_cmp nat_cmp) set dist
+-- the error is that there is no answer, at line 1, or memory ran out
+abbrev pub Fails : {X : Type 0} → HistoryErr → Option X → Type 0
+Fails (BadHistory line) answer = (line ≡ 1) × (answer ≡ None)
+Fails Memory answer = Unit {0}
 
--- an ascending list with a dist taken out
-abbrev pub taken_out : List ℕ → List (List ℕ) → List (List ℕ)
-taken_out dist set = remove_key (is_at (slice_cmp nat_cmp dist)) set
+-- the answer is the one that there is, or its want, or memory ran out
+abbrev pub Answers : {X : Type 0} → Result X HistoryErr → Option X → Type 0
+Answers result answer = MatchResult result (λ x. answer ≡ Some x) (λ e. Fails e answer)
 
-abbrev pub no_names : Names
-no_names = record { removed = []; added = []; plain = []; signed = false }
+-- the error names this line, or memory ran out
+abbrev pub IsAtLine : HistoryErr → ℕ → Type 0
+IsAtLine (BadHistory line) n = line ≡ n
+IsAtLine Memory n = Unit {0}
 
--- the names with one more line
-abbrev pub named : Names → Line → Names
-named n (Removed dist) =
-    record { removed = put_in dist n.removed; added = taken_out dist n.added; plain = n.plain; signed = true }
-named n (Added dist) =
-    record { removed = taken_out dist n.removed; added = put_in dist n.added; plain = n.plain; signed = true }
-named n (Plain dist) = record n { plain = put_in dist n.plain }
-named n _ = n
+abbrev pub dist_of : List ℕ → Option (List ℕ)
+dist_of text = if is_dist text then Some text else None
 
--- the lines are the whole set: none has a sign, and one names a dist
-abbrev pub are_whole : Names → Bool
-are_whole n = not n.signed && not (is_empty n.plain)
+-- what a line says, behind its sign or without one
+abbrev pub removed_of : List ℕ → Option Line
+removed_of text = option_map Removed (dist_of text)
 
--- the block of a stamp and these names
-abbrev pub block_of : Stamp → Names → Block
-block_of stamp n =
-    if are_whole n then record { stamp = stamp; removed = []; added = n.plain; whole = true }
-    else record { stamp = stamp; removed = n.removed; added = n.added; whole = false }
+abbrev pub added_of : List ℕ → Option Line
+added_of text = option_map Added (dist_of text)
 
-abbrev pub start : Reading
-start = record { done = []; current = None }
+abbrev pub header_of : List ℕ → Option Line
+header_of text = option_map Header (stamp_of text)
+
+-- what a line says
+unfoldable pub line_of : List ℕ → Option Line
+line_of [] = None
+line_of (b ∷ rest) = if b == dash then removed_of rest else (if b == plus then added_of rest else header_of (b ∷ rest))
+
+abbrev pub new_block : Stamp → Block
+new_block stamp = record { stamp = stamp; removed = []; added = []; whole = false }
+
+-- a block with one more removed dist, which none of the added ones stands before
+abbrev pub removed_too : Block → List ℕ → Option (Option Block)
+removed_too block dist = if is_empty block.added then Some (Some (record block { removed = block.removed ++ dist ∷ [] })) else None
+
+abbrev pub with_removed : Option Block → List ℕ → Option (Option Block)
+with_removed None dist = None
+with_removed (Some block) dist = removed_too block dist
+
+abbrev pub with_added : Option Block → List ℕ → Option (Option Block)
+with_added None dist = None
+with_added (Some block) dist = Some (Some (record block { added = block.added ++ dist ∷ [] }))
 
 -- the blocks with the open one at their end
-abbrev pub closed_with : List Block → Option Open → List Block
-closed_with done None = done
-closed_with done (Some o) = done ++ block_of o.stamp o.names ∷ []
+abbrev pub closed : List Block → Option Block → List Block
+closed done None = done
+closed done (Some block) = done ++ block ∷ []
 
-abbrev pub closed : Reading → List Block
-closed r = closed_with r.done r.current
+-- the blocks with what one more line says
+unfoldable pub step : Made → Line → Option Made
+step made (Header stamp) = Some (record { done = closed made.done made.current; current = Some (new_block stamp) })
+step made (Removed dist) = option_map (λ o. record { done = made.done; current = o }) (with_removed made.current dist)
+step made (Added dist) = option_map (λ o. record { done = made.done; current = o }) (with_added made.current dist)
 
--- a block with one more line
-abbrev pub open_with : Open → Line → Open
-open_with o line = record { stamp = o.stamp; names = named o.names line }
+-- the blocks with one more line
+abbrev pub step_line : Made → List ℕ → Option Made
+step_line made text = option_and_then (λ line. step made line) (line_of text)
 
-abbrev pub with_named : List Block → Line → Option Open → Option Reading
-with_named done line None = None
-with_named done line (Some o) = Some (record { done = done; current = Some (open_with o line) })
+-- the blocks, where nothing is left
+abbrev pub finished : Made → List ℕ → Option (List Block)
+finished made piece = if is_empty piece then Some (closed made.done made.current) else None
 
--- the blocks with a new one, which is open
-abbrev pub begun : Reading → Stamp → Reading
-begun r stamp = record { done = closed r; current = Some (record { stamp = stamp; names = no_names }) }
+-- the blocks of the pieces between the newlines; the last piece, behind the last newline, is empty
+unfoldable pub read_pieces : Made → List (List ℕ) → Option (List Block)
+read_pieces made [] = None
+read_pieces made (piece ∷ []) = finished made piece
+read_pieces made (piece ∷ next ∷ more) = option_and_then (λ m. read_pieces m (next ∷ more)) (step_line made piece)
 
--- the blocks with what one more line says; a dist is named only behind a header
-abbrev pub step : Reading → Line → Option Reading
-step r Nothing = Some r
-step r (Header stamp) = Some (begun r stamp)
-step r (Removed dist) = with_named r.done (Removed dist) r.current
-step r (Added dist) = with_named r.done (Added dist) r.current
-step r (Plain dist) = with_named r.done (Plain dist) r.current
+abbrev pub is_newline : ℕ → Bool
+is_newline b = b == newline
 
--- the value, or the number of a line that has none
-abbrev pub or_line : ℕ → Option Reading → Read Reading ℕ
-or_line number None = Err number
-or_line number (Some r) = Ok r
+abbrev pub start : Made
+start = record { done = []; current = None }
 
--- the blocks with one more line of this number
-abbrev pub line_read : ℕ → Reading → List ℕ → Read Reading ℕ
-line_read number r raw = or_line number (option_and_then (step r) (line_of raw))
+-- the blocks of a text
+abbrev pub blocks_of : List ℕ → Option (List Block)
+blocks_of text = read_pieces start (slice_split is_newline text)
 
--- the blocks with lines of which the first has this number
-abbrev pub lines_read : ℕ → Reading → List (List ℕ) → Read Reading ℕ
-lines_read number r [] = Ok r
-lines_read number r (raw ∷ raws) = line_read number r raw >>= (λ next. lines_read (number + 1) next raws)
-
--- what the lines of a text make of no blocks
-abbrev pub text_read : List ℕ → Read Reading ℕ
-text_read bytes = lines_read 1 start (lines_of bytes)
-
--- the blocks of bytes, or the number of the first line that is none of a history
-unfoldable pub blocks_read : List ℕ → Read (List Block) ℕ
-blocks_read bytes = text_read bytes >>= (λ r. Ok (closed r))
-
--- the same as a history
-abbrev pub history_read : List ℕ → Read History ℕ
-history_read bytes = blocks_read bytes >>= (λ blocks. Ok (record { blocks = blocks }))
+-- the blocks of bytes that are a history
+unfoldable pub history_of : List ℕ → Option (List Block)
+history_of bytes = if is_utf8 bytes then blocks_of bytes else None

@@ -1,98 +1,89 @@
-ghost use Rattle.std.specs.Prelude.{◌≡◌, IfOk, false, option_map};
-ghost use Rattle.conda_history.specs.Lines as lines;
-ghost use Rattle.conda_history.specs.declared.line.Line.TheVariants as says;
+ghost use Rattle.std.specs.Prelude.{◌≡◌, ◌≢◌, ◌∷◌, List, MatchOption, MatchResult, Some, ℕ};
+ghost use Rattle.conda_base.specs.Signs.{dash, plus};
+ghost use Rattle.conda_history.specs.Reading as reading;
 
-use crate::pieces::{behind, dist_part, middle_of, says_nothing, text_of, without_ends};
-use crate::stamp::{Stamp, read_moment};
-use conda_path::{Dist, DistErr, dist_laws};
-use std::alloc::{AllocError, Global};
+use crate::revision::HistoryErr;
+use crate::stamp::{Stamp, read_header};
+use conda_path::{Dist, DistErr};
+use std::alloc::Global;
 
 /// What a line says.
 #[derive(Debug, Drop)]
 pub enum Line {
-    /// An empty line or a comment.
-    Nothing,
     Header(Stamp),
     Removed(Dist),
     Added(Dist),
-    /// A dist without a sign.
-    Plain(Dist),
 }
 
-/// The dist that a text behind its sign names.
-fn read_dist(alloc: Global, text: &str) -> Result<Option<Dist>, AllocError>
-    ensures { IfOk result (λ dist. dist ≡ lines.dist_of text.now) }
+/// The refusal of a text. Its place is line 1, whatever line is wrong.
+pub const BAD: HistoryErr = HistoryErr::BadHistory { line: 1 };
+
+/// Reads the dist behind a sign.
+fn read_dist(alloc: Global, text: &str) -> Result<Dist, HistoryErr>
+    ensures { reading.Answers result (reading.dist_of text.now) }
 {
-    dist_laws();
-    match Dist::read(alloc, dist_part(text)) {
-        Ok(dist) => Ok(Some(dist)),
-        Err(DistErr::BadDist) => Ok(None),
-        Err(DistErr::Memory) => Err(AllocError),
+    match Dist::read(alloc, text) {
+        Ok(dist) => Ok(dist),
+        Err(DistErr::BadDist) => Err(BAD),
+        Err(DistErr::Memory) => Err(HistoryErr::Memory),
     }
 }
 
-/// What a text behind a `-` says.
-fn read_removed(alloc: Global, text: &str) -> Result<Option<Line>, AllocError>
-    ensures { IfOk result (λ line. line ≡ option_map says.Removed (lines.dist_of text.now)) }
+/// What stands behind a `-` at the front.
+fn behind_minus(text: &str) -> Option<&str>
+    ensures { MatchOption result ((rest : List ℕ) → text.now ≢ dash ∷ rest)
+        (λ rest. text.now ≡ dash ∷ rest.now) }
 {
-    Ok(read_dist(alloc, text)?.map(Line::Removed))
+    text.strip_prefix('-')
 }
 
-/// What a text behind a `+` says.
-fn read_added(alloc: Global, text: &str) -> Result<Option<Line>, AllocError>
-    ensures { IfOk result (λ line. line ≡ option_map says.Added (lines.dist_of text.now)) }
+/// What stands behind a `+` at the front.
+fn behind_plus(text: &str) -> Option<&str>
+    ensures { MatchOption result ((rest : List ℕ) → text.now ≢ plus ∷ rest)
+        (λ rest. text.now ≡ plus ∷ rest.now) }
 {
-    Ok(read_dist(alloc, text)?.map(Line::Added))
+    text.strip_prefix('+')
 }
 
-/// What a line says that is neither empty, nor a comment, nor a header line.
-fn read_entry(alloc: Global, text: &str) -> Result<Option<Line>, AllocError>
-    requires { lines.says_nothing text.now ≡ false }
-    ensures { IfOk result (λ line. line ≡ lines.entry_of text.now) }
+/// Reads what stands behind a `-`.
+fn read_removed(alloc: Global, text: &str) -> Result<Line, HistoryErr>
+    ensures { reading.Answers result (reading.removed_of text.now) }
 {
-    if let Some(rest) = behind(text, '-') {
+    match read_dist(alloc, text) {
+        Ok(dist) => Ok(Line::Removed(dist)),
+        Err(e) => Err(e),
+    }
+}
+
+/// Reads what stands behind a `+`.
+fn read_added(alloc: Global, text: &str) -> Result<Line, HistoryErr>
+    ensures { reading.Answers result (reading.added_of text.now) }
+{
+    match read_dist(alloc, text) {
+        Ok(dist) => Ok(Line::Added(dist)),
+        Err(e) => Err(e),
+    }
+}
+
+/// Reads a line without a sign.
+fn read_plain(text: &str) -> Result<Line, HistoryErr>
+    ensures { reading.Answers result (reading.header_of text.now) }
+{
+    match read_header(text.as_bytes()) {
+        Some(stamp) => Ok(Line::Header(stamp)),
+        None => Err(BAD),
+    }
+}
+
+/// Reads a line, which is given without its newline.
+pub fn read_line(alloc: Global, text: &str) -> Result<Line, HistoryErr>
+    ensures { reading.Answers result (reading.line_of text.now) }
+{
+    if let Some(rest) = behind_minus(text) {
         return read_removed(alloc, rest);
     }
-    if let Some(rest) = behind(text, '+') {
+    if let Some(rest) = behind_plus(text) {
         return read_added(alloc, rest);
     }
-    Ok(read_dist(alloc, text)?.map(Line::Plain))
-}
-
-/// What a line says that is no header line.
-fn read_named(alloc: Global, text: &str) -> Result<Option<Line>, AllocError>
-    ensures { IfOk result (λ line. line ≡ lines.named_of text.now) }
-{
-    if says_nothing(text.as_bytes()) {
-        return Ok(Some(Line::Nothing));
-    }
-    read_entry(alloc, text)
-}
-
-/// What a header line says, by what stands between its marks.
-fn read_header(middle: &str) -> Option<Line>
-    ensures { result ≡ lines.header_of middle.now }
-{
-    let moment = without_ends(middle, ' ');
-    read_moment(moment.as_bytes()).map(Line::Header)
-}
-
-/// What a line between its blanks says.
-fn read_said(alloc: Global, text: &str) -> Result<Option<Line>, AllocError>
-    ensures { IfOk result (λ line. line ≡ lines.said_of text.now) }
-{
-    match middle_of(text) {
-        Some(middle) => Ok(read_header(middle)),
-        None => read_named(alloc, text),
-    }
-}
-
-/// What a line says, which is given without its newline; None where it is none of a history.
-pub fn read_line(alloc: Global, raw: &[u8]) -> Result<Option<Line>, AllocError>
-    ensures { IfOk result (λ line. line ≡ lines.line_of raw.now) }
-{
-    match text_of(raw) {
-        Some(text) => read_said(alloc, without_ends(text, '\r')),
-        None => Ok(None),
-    }
+    read_plain(text)
 }

@@ -1,188 +1,200 @@
-ghost use Rattle.std.specs.Prelude.{◌≡◌, IfOk};
-ghost use Rattle.std.specs.List.{AllByRecursion};
-ghost use Rattle.conda_base.specs.Reads.{Gives};
-ghost use Rattle.conda_history.specs.Blocks.{IsBlock};
-ghost use Rattle.conda_history.specs.Faults.{history_fault_of};
-ghost use Rattle.conda_history.specs.Reading as steps;
-ghost use Rattle.conda_history.specs.Reading.{blocks_read, history_read};
+ghost use Rattle.std.specs.Prelude.{◌≡◌, ◌<◌, [], ◌∷◌, IfErr, IfOk, IfSome, IsUtf8, List, ℕ, MatchOption, MatchResult, Some, length};
+ghost use Rattle.std.specs.List.{slice_split};
+ghost use Rattle.conda_history.specs.Blocks.{IsHistory};
+ghost use Rattle.conda_history.specs.Reading as reading;
+ghost use Rattle.conda_history.specs.declared.revision.Block.{Block};
 
-use crate::laws::grammar_laws;
-use crate::line::{Line, read_line};
-use crate::names::NameSets;
-use crate::pieces::next_line;
+use crate::line::{BAD, Line, read_line};
 use crate::revision::{Block, History, HistoryErr};
 use crate::stamp::Stamp;
 use conda_base::Rows;
+use conda_path::{Dist, dist_laws};
 use std::alloc::{AllocError, Global};
 
-/// The open block: its stamp, and what its lines name so far.
+/// The blocks so far: those that are closed, and the one that lines are put into.
 #[derive(Debug, Drop)]
-pub struct Open {
-    pub stamp: Stamp,
-    pub names: NameSets,
+pub struct Made {
+    pub done: Rows<Block>,
+    pub current: Option<Block>,
 }
 
-/// The closed blocks, and the open one behind the first header.
-#[derive(Debug, Drop)]
-pub struct Reading {
-    pub done: Rows<Block>,
-    pub current: Option<Open>,
+/// An open block of a stamp, with nothing in it.
+fn new_block(alloc: Global, stamp: Stamp) -> Block
+    ensures { result ≡ reading.new_block stamp }
+{
+    Block {
+        stamp,
+        removed: Rows::new(alloc),
+        added: Rows::new(alloc),
+        whole: false,
+    }
+}
+
+/// Puts a dist into the open block, among the removed ones.
+fn remove(current: &mut Option<Block>, dist: Dist) -> Result<(), HistoryErr>
+    ensures { MatchResult result (λ _. reading.with_removed current.old dist ≡ Some current.new)
+        (λ e. reading.Fails e (reading.with_removed current.old dist)) }
+{
+    match current {
+        Some(block) => {
+            if block.added.len() > 0 {
+                return Err(BAD);
+            }
+            match block.removed.push(dist) {
+                Ok(()) => Ok(()),
+                Err(_) => Err(HistoryErr::Memory),
+            }
+        }
+        None => Err(BAD),
+    }
+}
+
+/// Puts a dist into the open block, among the added ones.
+fn add(current: &mut Option<Block>, dist: Dist) -> Result<(), HistoryErr>
+    ensures { MatchResult result (λ _. reading.with_added current.old dist ≡ Some current.new)
+        (λ e. reading.Fails e (reading.with_added current.old dist)) }
+{
+    match current {
+        Some(block) => match block.added.push(dist) {
+            Ok(()) => Ok(()),
+            Err(_) => Err(HistoryErr::Memory),
+        },
+        None => Err(BAD),
+    }
 }
 
 /// The blocks with the open one at their end.
-fn closed(alloc: Global, reading: Reading) -> Result<Rows<Block>, AllocError>
-    ensures { IfOk result (λ blocks. blocks ≡ steps.closed reading) }
+fn close(done: Rows<Block>, current: Option<Block>) -> Result<Rows<Block>, HistoryErr>
+    ensures { MatchResult result (λ blocks. blocks ≡ reading.closed done current)
+        (λ e. e ≡ HistoryErr.Memory) }
 {
-    let Reading { done, current } = reading;
-    let mut done = done;
-    if let Some(open) = current {
-        let block = open.names.into_block(alloc, open.stamp)?;
-        done.push(block)?;
-    }
-    Ok(done)
-}
-
-/// A block with one more line that names a dist.
-fn with_named(current: Open, line: Line) -> Result<Open, AllocError>
-    ensures { IfOk result (λ made. made ≡ steps.open_with current line) }
-{
-    let Open { stamp, names } = current;
-    let mut names = names;
-    match line {
-        Line::Removed(dist) => names.remove(dist)?,
-        Line::Added(dist) => names.add(dist)?,
-        Line::Plain(dist) => names.name(dist)?,
-        Line::Nothing | Line::Header(_) => {}
-    }
-    Ok(Open { stamp, names })
-}
-
-/// The blocks with one more line that names a dist; None where no header stands before it.
-fn with_entry(reading: Reading, line: Line) -> Result<Option<Reading>, AllocError>
-    ensures { IfOk result (λ made. made ≡ steps.with_named reading.done line reading.current) }
-{
-    let Reading { done, current } = reading;
-    match current {
-        Some(open) => {
-            let open = with_named(open, line)?;
-            Ok(Some(Reading {
-                done,
-                current: Some(open),
-            }))
+    let mut blocks = done;
+    if let Some(block) = current {
+        match blocks.push(block) {
+            Ok(()) => {}
+            Err(_) => return Err(HistoryErr::Memory),
         }
-        None => Ok(None),
     }
-}
-
-/// The blocks with a new one, which is open.
-fn with_header(alloc: Global, reading: Reading, stamp: Stamp) -> Result<Reading, AllocError>
-    ensures { IfOk result (λ made. made ≡ steps.begun reading stamp) }
-{
-    let done = closed(alloc, reading)?;
-    Ok(Reading {
-        done,
-        current: Some(Open {
-            stamp,
-            names: NameSets::new(alloc),
-        }),
-    })
+    Ok(blocks)
 }
 
 /// The blocks with what one more line says.
-fn step(alloc: Global, reading: Reading, line: Line) -> Result<Option<Reading>, AllocError>
-    ensures { IfOk result (λ made. made ≡ steps.step reading line) }
+#[tactic(auto, unfolding(crate::specs::Reading::step))]
+fn take(alloc: Global, made: Made, line: Line) -> Result<Made, HistoryErr>
+    ensures { reading.Answers result (reading.step made line) }
 {
+    let Made { done, mut current } = made;
     match line {
-        Line::Nothing => Ok(Some(reading)),
-        Line::Header(stamp) => Ok(Some(with_header(alloc, reading, stamp)?)),
-        Line::Removed(dist) => with_entry(reading, Line::Removed(dist)),
-        Line::Added(dist) => with_entry(reading, Line::Added(dist)),
-        Line::Plain(dist) => with_entry(reading, Line::Plain(dist)),
-    }
-}
-
-/// The blocks with one more line of this number, which is given without its newline.
-fn with_line(
-    alloc: Global,
-    number: u64,
-    reading: Reading,
-    raw: &[u8],
-) -> Result<Reading, HistoryErr>
-    ensures { Gives history_fault_of result (steps.line_read number reading raw.now) }
-{
-    let line = match read_line(alloc, raw) {
-        Ok(Some(line)) => line,
-        Ok(None) => return Err(HistoryErr::BadHistory { line: number }),
-        Err(_) => return Err(HistoryErr::Memory),
-    };
-    match step(alloc, reading, line) {
-        Ok(Some(reading)) => Ok(reading),
-        Ok(None) => Err(HistoryErr::BadHistory { line: number }),
-        Err(_) => Err(HistoryErr::Memory),
-    }
-}
-
-fn begun(alloc: Global) -> Reading
-    ensures { result ≡ steps.start }
-{
-    Reading {
-        done: Rows::new(alloc),
-        current: None,
-    }
-}
-
-/// What the lines of a text make of no blocks.
-fn lines_of(alloc: Global, bytes: &[u8]) -> Result<Reading, HistoryErr>
-    ensures { Gives history_fault_of result (steps.text_read bytes.now) }
-{
-    let mut reading = begun(alloc);
-    let mut rest = bytes;
-    let mut number: u64 = 1;
-    while let Some((line, after)) = next_line(rest) {
-        match with_line(alloc, number, reading, line) {
-            Ok(next) => reading = next,
-            Err(e) => return Err(e),
+        Line::Header(stamp) => {
+            let done = close(done, current)?;
+            Ok(Made {
+                done,
+                current: Some(new_block(alloc, stamp)),
+            })
         }
-        rest = after;
-        number += 1;
+        Line::Removed(dist) => {
+            remove(&mut current, dist)?;
+            Ok(Made { done, current })
+        }
+        Line::Added(dist) => {
+            add(&mut current, dist)?;
+            Ok(Made { done, current })
+        }
     }
-    with_line(alloc, number, reading, rest)
 }
 
-/// The blocks of a text.
-#[tactic(auto, unfolding(crate::specs::Reading::blocks_read))]
-fn blocks_of(alloc: Global, bytes: &[u8]) -> Result<Rows<Block>, HistoryErr>
-    ensures { Gives history_fault_of result (blocks_read bytes.now) }
+/// The blocks with one more line, which is given without its newline.
+fn with_line(alloc: Global, made: Made, text: &str) -> Result<Made, HistoryErr>
+    ensures { reading.Answers result (reading.step_line made text.now) }
 {
-    match lines_of(alloc, bytes) {
-        Ok(reading) => match closed(alloc, reading) {
-            Ok(blocks) => Ok(blocks),
-            Err(_) => Err(HistoryErr::Memory),
-        },
+    match read_line(alloc, text) {
+        Ok(line) => take(alloc, made, line),
         Err(e) => Err(e),
     }
 }
 
+/// The first line and what stands behind its newline.
+fn next_line(text: &str) -> Option<(&str, &str)>
+    ensures line { MatchOption result (slice_split reading.is_newline text.now ≡ text.now ∷ [])
+        (λ cut. slice_split reading.is_newline text.now
+        ≡ cut.0.now ∷ slice_split reading.is_newline cut.1.now) }
+    ensures shorter { IfSome result (λ cut. length cut.1.now < length text.now) }
+    ensures utf8 { IfSome result (λ cut. IsUtf8 cut.0.now × IsUtf8 cut.1.now) }
+{
+    text.split_once('\n')
+}
+
+/// The blocks, where nothing stands behind the last newline.
+fn finish(made: Made, rest: &str) -> Result<Rows<Block>, HistoryErr>
+    ensures { reading.Answers result (reading.finished made rest.now) }
+{
+    if !rest.is_empty() {
+        return Err(BAD);
+    }
+    let Made { done, current } = made;
+    close(done, current)
+}
+
+/// The blocks of a text.
+fn blocks_of(alloc: Global, text: &str) -> Result<Rows<Block>, HistoryErr>
+    ensures { reading.Answers result (reading.blocks_of text.now) }
+{
+    let mut made = Made {
+        done: Rows::new(alloc),
+        current: None,
+    };
+    let mut rest = text;
+    while let Some((line, after)) = next_line(rest) {
+        match with_line(alloc, made, line) {
+            Ok(next) => made = next,
+            Err(e) => return Err(e),
+        }
+        rest = after;
+    }
+    finish(made, rest)
+}
+
+/// The text that the bytes are, if they are UTF-8.
+fn text_of(bytes: &[u8]) -> Option<&str>
+    ensures { MatchOption result (¬ IsUtf8 bytes.now)
+        (λ text. (text.now ≡ bytes.now) × IsUtf8 bytes.now) }
+{
+    match str::from_utf8(bytes) {
+        Ok(text) => Some(text),
+        Err(_) => None,
+    }
+}
+
 impl History {
-    /// Reads the text of a history, as conda's `history.py` does, in one pass over its bytes.
+    /// Reads the text of a history: blocks of a header line `==> YYYY-MM-DD HH:MM:SS <==`, then a
+    /// line `-dist` for each dist that left, then a line `+dist` for each that joined. Each line
+    /// ends with a newline; nothing is stripped. The empty text has no block.
     ///
-    /// Spaces and carriage returns at the ends of a line count for nothing; empty lines and lines
-    /// that begin with `#` are passed over. A header line `==> YYYY-MM-DD HH:MM:SS <==` begins each
-    /// block. Every other line is `-` or `+` or no sign, a channel and `::` or nothing, and a dist
-    /// with the ending of a package file or without one. Where no line of a block has a sign, its
-    /// dists are the whole set. Else the last line with a sign counts that names a dist. The empty
-    /// text has no block.
-    ///
-    /// `BadHistory` has the number of the first line that is none of these, or isn't UTF-8, or names
-    /// a dist before the first header.
+    /// Every other text is `BadHistory` at line 1, also one that isn't UTF-8.
     pub fn read(alloc: Global, bytes: &[u8]) -> Result<History, HistoryErr>
-        ensures exact { Gives history_fault_of result (history_read bytes.now) }
-        ensures good { IfOk result (λ history. AllByRecursion IsBlock history.blocks) }
+        ensures found { IfOk result (λ history. IsHistory bytes.now history.blocks) }
+        ensures only { (blocks : List Block) → IsHistory bytes.now blocks
+            → MatchResult result (λ history. history.blocks ≡ blocks) (λ e. e ≡ HistoryErr.Memory) }
+        ensures line { IfErr result (λ e. reading.IsAtLine e 1) }
+        ensures exact { MatchResult result
+            (λ history. reading.history_of bytes.now ≡ Some history.blocks)
+            (λ e. reading.Fails e (reading.history_of bytes.now)) }
     {
-        grammar_laws();
-        match blocks_of(alloc, bytes) {
-            Ok(blocks) => Ok(History { blocks }),
+        dist_laws();
+        let Some(text) = text_of(bytes) else {
+            return Err(BAD);
+        };
+        match blocks_of(alloc, text) {
+            Ok(made) => Ok(History { blocks: made }),
             Err(e) => Err(e),
         }
     }
+}
+
+/// Bytes are the text of one history at most.
+pub fn history_laws()
+    ensures one { (bytes : List ℕ) (first second : List Block) → IsHistory bytes first
+        → IsHistory bytes second → first ≡ second }
+{
+    dist_laws();
 }

@@ -11,9 +11,8 @@ pub struct History {
 
 /// What one revision changed.
 ///
-/// `removed` left the set and `added` joined it. Where the block is `whole`, `added` is the whole
-/// set that it leaves: so early conda wrote it, without signs. What is read has both lists ascending
-/// by bytes, no dist in both, and a whole block has dists in `added` alone.
+/// `removed` left the set and `added` joined it, each in the order of the text. In a block that is
+/// whole, `added` is the whole set; no text that is read now has such a block.
 #[derive(Clone, Debug, PartialEq, Eq, Drop)]
 pub struct Block {
     pub stamp: Stamp,
@@ -25,7 +24,7 @@ pub struct Block {
 /// Why a text is no history, or why there is no answer.
 #[derive(Clone, Copy, Debug, PartialEq, Eq)]
 pub enum HistoryErr {
-    /// The number of the first line, from 1, that is none of a history.
+    /// The text isn't of the form that is read. `line` is 1.
     BadHistory { line: u64 },
     /// There was no memory for the answer.
     Memory,

@@ -1,13 +1,11 @@
-ghost use Rattle.std.specs.Prelude.{◌≡◌, ◌↔◌, ◌≤◌, ◌<◌, ◌++◌, ◌∷◌, IsTrue, OnOk, nat_eq, pos, string_bytes};
+ghost use Rattle.std.specs.Prelude.{◌≡◌, ◌↔◌, ◌≤◌, ◌<◌, IsTrue, nat_eq, pos};
 ghost use Rattle.std.specs.Cmp.Lexicographic.{pointwise};
 ghost use Rattle.jiff_core.specs.Calendar.{IsDate};
 ghost use Rattle.jiff_core.specs.Time.{IsTime};
 ghost use Rattle.conda_history.specs.Stamps as stamps;
 
 use conda_base::Copied;
-use jiff::Timestamp;
 use jiff::civil::DateTime;
-use jiff::tz::Offset;
 use std::alloc::AllocError;
 
 /// A moment in UTC, to the second: a date of the years 0 to 9999 on the calendar of ISO 8601 and a
@@ -28,129 +26,58 @@ impl Copied for Stamp {
     }
 }
 
-/// The length of a moment's text.
-pub const MOMENT_LENGTH: usize = 19;
-
-impl Stamp {
-    /// The moment in UTC so many seconds behind 1970-01-01 00:00:00, without leap seconds. It takes
-    /// no memory.
-    pub fn of(seconds: u64) -> Stamp
-        requires { seconds ≤ 250_000_000_000 }
-        ensures exists { stamps.Exists result }
-        ensures moment { stamps.seconds_of result ≡ pos seconds }
-    {
-        let moment = Offset::UTC.to_datetime(Timestamp::constant(seconds as i64, 0));
-        let date = moment.date().to_plain();
-        let time = moment.time().to_plain();
-        Stamp {
-            year: date.year.unsigned_abs(),
-            month: date.month,
-            day: date.day,
-            hour: time.hour,
-            minute: time.minute,
-            second: time.second,
-        }
-    }
-
-    /// Appends the moment as `YYYY-MM-DD HH:MM:SS`. Of a stamp that doesn't exist it may append other
-    /// characters than digits.
-    pub fn push_text(self, text: &mut String) -> Result<(), AllocError>
-        ensures { OnOk result (string_bytes text.new
-            ≡ string_bytes text.old ++ stamps.moment_text self) }
-    {
-        push_date(text, self)?;
-        text.push(' ')?;
-        push_time(text, self)?;
-        Ok(())
-    }
-}
-
-/// Appends the date of a moment.
-fn push_date(text: &mut String, stamp: Stamp) -> Result<(), AllocError>
-    ensures { OnOk result (string_bytes text.new
-        ≡ string_bytes text.old ++ stamps.date_text stamp) }
-{
-    push_two(text, stamp.year / 100)?;
-    push_two(text, stamp.year % 100)?;
-    push_next(text, '-', stamp.month)?;
-    push_next(text, '-', stamp.day)
-}
-
-/// Appends the time of day of a moment.
-fn push_time(text: &mut String, stamp: Stamp) -> Result<(), AllocError>
-    ensures { OnOk result (string_bytes text.new
-        ≡ string_bytes text.old ++ stamps.time_text stamp) }
-{
-    push_two(text, u16::from(stamp.hour))?;
-    push_next(text, ':', stamp.minute)?;
-    push_next(text, ':', stamp.second)
-}
-
-/// Appends a mark and a number behind it.
-fn push_next(text: &mut String, mark: char, number: u8) -> Result<(), AllocError>
-    requires { mark < 128 }
-    ensures { OnOk result (string_bytes text.new
-        ≡ string_bytes text.old ++ mark ∷ stamps.two_digits number) }
-{
-    text.push(mark)?;
-    push_two(text, u16::from(number))
-}
-
-/// Appends a number below 100 in two digits.
-fn push_two(text: &mut String, number: u16) -> Result<(), AllocError>
-    requires { number < 800 }
-    ensures { OnOk result (string_bytes text.new
-        ≡ string_bytes text.old ++ stamps.two_digits number) }
-{
-    text.push(char::from(b'0' + (number / 10) as u8))?;
-    text.push(char::from(b'0' + (number % 10) as u8))?;
-    Ok(())
-}
+/// The length of a header line.
+pub const HEADER_LENGTH: usize = 27;
 
 /// The digit at an offset, or 0 where none stands there.
-fn digit_at(text: &[u8], at: usize) -> u8
-    ensures digit { result ≡ stamps.digit_at text.now at }
+fn digit_at(line: &[u8], at: usize) -> u8
+    ensures digit { result ≡ stamps.digit_at line.now at }
     ensures small { result ≤ 9 }
 {
-    match text.get(at) {
+    match line.get(at) {
         Some(byte) if byte.is_ascii_digit() => *byte - b'0',
         _ => 0,
     }
 }
 
 /// The number whose two digits begin at an offset.
-fn two_at(text: &[u8], at: usize) -> u8
+fn two_at(line: &[u8], at: usize) -> u8
     requires { at < 99 }
-    ensures number { result ≡ stamps.two_at text.now at }
+    ensures number { result ≡ stamps.two_at line.now at }
     ensures small { result ≤ 99 }
 {
-    digit_at(text, at) * 10 + digit_at(text, at + 1)
+    digit_at(line, at) * 10 + digit_at(line, at + 1)
 }
 
-/// The numbers that stand in the text of a moment.
-fn stamp_at(text: &[u8]) -> Stamp
-    ensures stamp { result ≡ stamps.stamp_at text.now }
+/// The numbers that stand in a header line.
+fn stamp_at(line: &[u8]) -> Stamp
+    ensures stamp { result ≡ stamps.stamp_at line.now }
     ensures small { stamps.IsShort result }
 {
     Stamp {
-        year: u16::from(two_at(text, 0)) * 100 + u16::from(two_at(text, 2)),
-        month: two_at(text, 5),
-        day: two_at(text, 8),
-        hour: two_at(text, 11),
-        minute: two_at(text, 14),
-        second: two_at(text, 17),
+        year: u16::from(two_at(line, 4)) * 100 + u16::from(two_at(line, 6)),
+        month: two_at(line, 9),
+        day: two_at(line, 12),
+        hour: two_at(line, 15),
+        minute: two_at(line, 18),
+        second: two_at(line, 21),
     }
 }
 
-/// The text of a moment. Of a stamp that doesn't exist it may hold other characters than digits.
-pub fn moment(stamp: Stamp) -> [u8; MOMENT_LENGTH]
-    ensures { result ≡ stamps.moment_text stamp }
+/// The header line of a stamp, without the newline.
+fn header(stamp: Stamp) -> [u8; HEADER_LENGTH]
+    requires { stamps.IsShort stamp }
+    ensures { result ≡ stamps.header_text stamp }
 {
-    let century = stamp.year / 100;
+    let century = (stamp.year / 100) as u8;
     let year = (stamp.year % 100) as u8;
     [
-        b'0' + (century / 10) as u8,
-        b'0' + (century % 10) as u8,
+        b'=',
+        b'=',
+        b'>',
+        b' ',
+        b'0' + century / 10,
+        b'0' + century % 10,
         b'0' + year / 10,
         b'0' + year % 10,
         b'-',
@@ -168,6 +95,10 @@ pub fn moment(stamp: Stamp) -> [u8; MOMENT_LENGTH]
         b':',
         b'0' + stamp.second / 10,
         b'0' + stamp.second % 10,
+        b' ',
+        b'<',
+        b'=',
+        b'=',
     ]
 }
 
@@ -198,20 +129,21 @@ fn exists(stamp: Stamp) -> bool
     is_moment(stamp)
 }
 
-/// Whether the text is the moment of the stamp.
-fn is_its_text(text: &[u8], stamp: Stamp) -> bool
-    ensures { result ≡ pointwise nat_eq text.now (stamps.moment_text stamp) }
+/// Whether the line is the header line of the stamp.
+fn is_header(line: &[u8], stamp: Stamp) -> bool
+    requires { stamps.IsShort stamp }
+    ensures { result ≡ pointwise nat_eq line.now (stamps.header_text stamp) }
 {
-    let written = moment(stamp);
-    text == written.as_slice()
+    let text = header(stamp);
+    line == text.as_slice()
 }
 
-/// The stamp of which the text is the moment, if there is one.
-pub fn read_moment(text: &[u8]) -> Option<Stamp>
-    ensures { result ≡ stamps.stamp_of text.now }
+/// The stamp of a header line, if the line is one.
+pub fn read_header(line: &[u8]) -> Option<Stamp>
+    ensures { result ≡ stamps.stamp_of line.now }
 {
-    let stamp = stamp_at(text);
-    if !is_its_text(text, stamp) {
+    let stamp = stamp_at(line);
+    if !is_header(line, stamp) {
         return None;
     }
     if !exists(stamp) {

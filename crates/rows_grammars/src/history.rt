@@ -1,10 +1,6 @@
 use conda_base::{Copied, Text};
-use conda_history::{Block, History, HistoryErr, Stamp};
-use rows_text::shown;
+use conda_history::{Block, History, HistoryErr};
 use std::alloc::{AllocError, Global};
-
-/// The most seconds of which a moment is asked.
-const MOST_SECONDS: u64 = 250_000_000_000;
 
 /// The rows of conda_history.
 pub fn answer(alloc: Global, call: &str, arguments: &[Text]) -> Result<Option<String>, AllocError> {
@@ -21,12 +17,6 @@ pub fn answer(alloc: Global, call: &str, arguments: &[Text]) -> Result<Option<St
             left(alloc, bytes.as_slice())
         }
         ("history.blocks", [text]) => blocks(alloc, text.as_str().as_bytes()),
-        ("history.text", [text]) => again(alloc, text.as_str().as_bytes()),
-        ("history.changes", [text]) => changes(alloc, text.as_str().as_bytes()),
-        ("stamp.of", [seconds]) => match seconds.as_str().parse::<u64>() {
-            Ok(seconds) if seconds <= MOST_SECONDS => of(alloc, seconds),
-            _ => Ok(None),
-        },
         _ => Ok(None),
     }
 }
@@ -65,45 +55,6 @@ fn blocks(alloc: Global, bytes: &[u8]) -> Result<Option<String>, AllocError> {
     Ok(Some(text))
 }
 
-/// The text of what is read, on one line.
-fn again(alloc: Global, bytes: &[u8]) -> Result<Option<String>, AllocError> {
-    let history = match History::read(alloc, bytes) {
-        Ok(history) => history,
-        Err(error) => return refused(alloc, error),
-    };
-    let Ok(text) = history.text(alloc) else {
-        return Ok(None);
-    };
-    match str::from_utf8(text.as_slice()) {
-        Ok(text) => Ok(Some(shown(alloc, text)?)),
-        Err(_) => Ok(None),
-    }
-}
-
-/// What each block really changes.
-fn changes(alloc: Global, bytes: &[u8]) -> Result<Option<String>, AllocError> {
-    let history = match History::read(alloc, bytes) {
-        Ok(history) => history,
-        Err(error) => return refused(alloc, error),
-    };
-    let Ok(changes) = history.changes(alloc) else {
-        return Ok(None);
-    };
-    let mut text = String::new(alloc);
-    for change in changes.as_slice() {
-        push_dists(&mut text, change)?;
-        text.push(';')?;
-    }
-    Ok(Some(text))
-}
-
-/// The moment of seconds.
-fn of(alloc: Global, seconds: u64) -> Result<Option<String>, AllocError> {
-    let mut text = String::new(alloc);
-    Stamp::of(seconds).push_text(&mut text)?;
-    Ok(Some(text))
-}
-
 fn push_block(alloc: Global, text: &mut String, block: &Block) -> Result<(), AllocError> {
     let stamp = block.stamp;
     let (year, month, day) = (stamp.year, stamp.month, stamp.day);
@@ -112,12 +63,6 @@ fn push_block(alloc: Global, text: &mut String, block: &Block) -> Result<(), All
     let time = format!(in alloc; " hour {hour} minute {minute} second {second}")?;
     text.push_str(date.as_str())?;
     text.push_str(time.as_str())?;
-    push_dists(text, block)?;
-    text.push_str(if block.whole { " whole;" } else { ";" })
-}
-
-/// The dists of a block by their signs.
-fn push_dists(text: &mut String, block: &Block) -> Result<(), AllocError> {
     for dist in block.removed.as_slice() {
         text.push_str(" -")?;
         text.push_str(dist.text())?;
@@ -126,7 +71,7 @@ fn push_dists(text: &mut String, block: &Block) -> Result<(), AllocError> {
         text.push_str(" +")?;
         text.push_str(dist.text())?;
     }
-    Ok(())
+    text.push_str(if block.whole { " whole;" } else { ";" })
 }
 
 fn refused(alloc: Global, error: HistoryErr) -> Result<Option<String>, AllocError> {

@@ -1,9 +1,6 @@
-use Rattle.std.proofs.Common.{ap}
-use Rattle.conda_cli.proofs.RunLemmas.{reports_all}
-use Rattle.conda_cli.specs.Answers.{IsReportOf}
+use Rattle.conda_cli.proofs.RunLemmas.{listed_all}
 use Rattle.conda_cli.proofs.runs.run_list.Goals as goal
 
-pub returns-clause-reports : goal.returns-clause-reports
-returns-clause-reports g c =
-    reports_all (record { meaning = c.grammar_laws.ensures.meaning; fault = c.grammar_laws.ensures.fault }) (IsReportOf c.args.prefix.now)
-    (λ blocks answer is. ap (λ a. a.status) is.4) _ _ _ _ _ c.give-status.ensures c.list-report.ensures.answer
+pub returns-clause-lists : goal.returns-clause-lists
+returns-clause-lists g c =
+    listed_all c.history_laws.ensures.one _ _ _ _ _ c.give-status.ensures c.list-report.ensures.answer

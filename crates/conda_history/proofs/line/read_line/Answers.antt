@@ -1,13 +1,12 @@
-use Rattle.std.proofs.Common.{ap, sym, ◌∙◌}
-use Rattle.conda_history.specs.Lines.{said_of}
-use Rattle.conda_history.proofs.LineLemmas.{line_is, line_none, said_as}
+use Rattle.conda_history.proofs.LineLemmas.{carried, line_added, line_header, line_removed}
 use Rattle.conda_history.proofs.line.read_line.Goals as goal
 
 pub returns-in-Some : goal.returns-in-Some
-returns-in-Some c =
-    said_as c.read_said.result _ _
-    (line_is c.args.raw.now c.in-Some.text.now c.in-Some.ensures.0 c.in-Some.ensures.1 ∙ ap said_of (sym c.without_ends.ensures))
-    c.read_said.ensures
+returns-in-Some c = carried c.read_removed.result _ _ (line_removed c.args.text.now _ c.in-Some.ensures) c.read_removed.ensures
 
-pub returns-in-None : goal.returns-in-None
-returns-in-None c = sym (line_none c.args.raw.now c.in-None.ensures)
+pub returns-in-Some-behind_plus : goal.returns-in-Some-behind_plus
+returns-in-Some-behind_plus c = carried c.read_added.result _ _ (line_added c.args.text.now _ c.in-Some-behind_plus.ensures) c.read_added.ensures
+
+pub returns : goal.returns
+returns c =
+    carried c.read_plain.result _ _ (line_header c.args.text.now c.in_default.ensures c.in_default-behind_plus.ensures) c.read_plain.ensures

@@ -1,7 +1,6 @@
 use Rattle.std.proofs.Common.{◌≡◌, ◌↔◌, List, ℕ, ap, subst, sym, ◌∙◌}
-use Rattle.conda_base.specs.Texts.{Ascending}
 use Rattle.conda_history.specs.Sets.{IsIn, IsLeft, set_of}
-use Rattle.conda_history.proofs.SetLemmas.{ascending, members}
+use Rattle.conda_history.proofs.SetLemmas.{members}
 use Rattle.conda_history.proofs.revision.History.set.Goals as goal
 
 pub returns-in-Ok-listed-clause-members : goal.returns-in-Ok-listed-clause-members
@@ -10,9 +9,3 @@ returns-in-Ok-listed-clause-members c = λ dist.
     let e : c.in-Ok-listed.rows ≡ set_of blocks = c.in-Ok-listed.ensures ∙ c.in-Ok.ensures ∙ ap set_of c.as_slice.ensures in
     let P : List (List ℕ) → Type 0 = λ set. IsIn dist set ↔ IsLeft blocks dist in
     subst P (sym e) (members blocks dist)
-
-pub returns-in-Ok-listed-clause-ascending : goal.returns-in-Ok-listed-clause-ascending
-returns-in-Ok-listed-clause-ascending c =
-    let blocks = c.args.self.now.blocks in
-    let e : c.in-Ok-listed.rows ≡ set_of blocks = c.in-Ok-listed.ensures ∙ c.in-Ok.ensures ∙ ap set_of c.as_slice.ensures in
-    subst Ascending (sym e) (ascending blocks)

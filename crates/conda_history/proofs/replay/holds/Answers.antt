@@ -1,6 +1,0 @@
-use Rattle.std.proofs.Common.{◌∙◌}
-use Rattle.conda_history.proofs.ChangeLemmas.{holds_is}
-use Rattle.conda_history.proofs.replay.holds.Goals as goal
-
-pub returns : goal.returns
-returns c = c.contains.ensures ∙ holds_is c.args.dist.now c.args.set.now.keys
