@@ -8,15 +8,12 @@ use Rattle.std.specs.Str.{bytes_eq}
 use Rattle.std.specs.FinMap as trees
 use Rattle.conda_path.specs.declared.values.Node.{Node}
 use Rattle.conda_device.specs.declared.fault.Failed.{Failed}
-use Rattle.conda_mem.specs.declared.fault.Effect.{Effect}
+use Rattle.conda_dev.specs.declared.fault.Effect.{Effect}
 use Rattle.conda_dev.specs.declared.mem_lane.MemLane.{MemLane}
-use Rattle.conda_dev.specs.declared.mem_host.MemHost.{MemHost}
 use Rattle.conda_dev.specs.declared.place.Place.{Place}
-use Rattle.conda_device.specs.Hosts.{HostState}
 use Rattle.conda_device.specs.Lanes.{Share}
 use Rattle.conda_device.specs.Tree.{Tree, together}
-use Rattle.conda_mem.specs.Plan.{effect_at, next_call}
-use Rattle.conda_mem.specs.Given.{files_at}
+use Rattle.conda_dev.specs.Plan.{effect_at, next_call}
 use Rattle.conda_dev.specs.Shares.{first_of}
 
 -- the place of a prefix
@@ -68,16 +65,3 @@ node_at (tree ∷ rest) path = first_of (trees.get tree path) (node_at rest path
 abbrev pub given : List (List ℕ × Tree) → Option Tree → List ℕ → Option Tree
 given [] told prefix = told
 given (entry ∷ rest) told prefix = given rest (if bytes_eq prefix entry.0 then Some entry.1 else told) prefix
-
--- what a host in memory tells of itself
-abbrev pub host_state : {R : Type 0} → MemHost R → HostState
-host_state host = record {
-  told = λ prefix. told_in (place_at host.places.entries prefix);
-  lent = λ prefix. lent_in (place_at host.places.entries prefix);
-  files = λ root name. Some (files_at host.channels.entries name);
-  gots = host.gots;
-  faults = host.meter.faults.count;
-  lane_faults = host.lane_faults.count;
-  chan_faults = host.chan_faults.count;
-  store_faults = host.store_faults.count;
-}

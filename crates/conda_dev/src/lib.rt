@@ -2,19 +2,20 @@
 #![tactic(auto)]
 
 mod clock;
+mod fault;
 mod lending;
 mod mem_host;
 mod mem_lane;
+mod meter;
 mod place;
 mod streams;
 mod tree;
 
 pub use clock::FixedClock;
 pub use conda_device::{
-    Abilities, Chan, Clock, DeviceErr, Failed, FaultCount, Got, Host, In, Lane, Out, Seen, Shown,
-    Store, Touch, Touched, tree_laws,
+    Abilities, Clock, DeviceErr, Failed, FaultCount, Host, In, Lane, Out, Seen, tree_laws,
 };
-pub use conda_mem::{Effect, FailAt, MemChan, MemStore, Target};
+pub use fault::{Effect, FailAt, Target};
 pub use mem_host::MemHost;
 pub use mem_lane::MemLane;
 pub use streams::{MemIn, MemOut};

@@ -4,23 +4,22 @@ ghost use Rattle.conda_device.specs.Tree.{cut_node};
 ghost use Rattle.conda_device.specs.Seen.{seen_of};
 ghost use Rattle.conda_path.specs.Lanes.{lane_number};
 
+use crate::fault::{Effect, FailAt, plan_for_lane};
+use crate::meter::Meter;
 use crate::tree::Tree;
 use conda_base::{Bytes, Copied};
 use conda_device::{Abilities, DeviceErr, Failed, Lane, Seen};
-use conda_mem::{Effect, FailAt, Hold, Meter, plan_for_lane};
 use conda_path::{Node, RelPath, StorePath};
 use std::alloc::{AllocError, Global};
-use std::sync::Arc;
 
 /// A lane in memory. It tells its tree.
-#[derive(Drop)]
+#[derive(Debug, Drop)]
 pub struct MemLane {
     pub(crate) number: u32,
     pub(crate) lanes: u32,
     pub(crate) abilities: Abilities,
     pub(crate) tree: Tree,
     pub(crate) meter: Meter,
-    pub(crate) hold: Option<Arc<Hold, Global>>,
     ghost in_share: { (path : List ℕ)
         → IsSome (map.get tree path) → lane_number path lanes ≡ number },
 }
@@ -55,7 +54,6 @@ impl MemLane {
             abilities: Abilities::ALL,
             tree,
             meter: Meter::new(0, plan),
-            hold: None,
         })
     }
 
@@ -76,16 +74,8 @@ impl MemLane {
         self.meter.planned.clear();
     }
 
-    /// Begins a put at a path: whether it may go on.
-    fn begin(&self, path: &RelPath) -> bool {
-        match &self.hold {
-            Some(hold) => hold.begin(path.as_str()),
-            None => true,
-        }
-    }
-
-    /// Puts a node at a path, whatever was there, if it may go on.
-    fn write(&mut self, path: &RelPath, node: &Node, may_go_on: bool) -> Result<(), Failed>
+    /// Puts a node at a path, whatever was there.
+    fn write(&mut self, path: &RelPath, node: &Node) -> Result<(), Failed>
         requires { IsInShare (⟦<MemLane as Lane>⟧.share self.old) path.now }
         ensures ok { OnOk result (⟦<MemLane as Lane>⟧.told self.new
             ≡ with_node (⟦<MemLane as Lane>⟧.told self.old) path.now node.now) }
@@ -97,7 +87,7 @@ impl MemLane {
         ensures share { ⟦<MemLane as Lane>⟧.share self.new ≡ ⟦<MemLane as Lane>⟧.share self.old }
     {
         let effect = self.meter.next();
-        if effect == Some(Effect::Before) || !may_go_on {
+        if effect == Some(Effect::Before) {
             return Err(self.meter.fail());
         }
         match put_copy(&mut self.tree, path, node) {
@@ -201,13 +191,11 @@ impl Lane for MemLane {
     }
 
     fn put(&mut self, path: &RelPath, node: &Node) -> Result<(), Failed> {
-        let may_go_on = self.begin(path);
-        self.write(path, node, may_go_on)
+        self.write(path, node)
     }
 
     fn put_hard(&mut self, path: &RelPath, _from: &StorePath, node: &Node) -> Result<(), Failed> {
-        let may_go_on = self.begin(path);
-        self.write(path, node, may_go_on)
+        self.write(path, node)
     }
 
     fn shift(&mut self, from: &RelPath, to: &RelPath) -> Result<(), Failed> {
@@ -242,7 +230,7 @@ impl Lane for MemLane {
     }
 
     fn replace(&mut self, path: &RelPath, node: &Node) -> Result<(), Failed> {
-        self.write(path, node, true)
+        self.write(path, node)
     }
 
     ghost inside = { λ lane. lane.in_share };

@@ -8,18 +8,19 @@ ghost use Rattle.conda_dev.specs.Memory.{faults_of, share_of, trees_of};
 ghost use Rattle.conda_device.specs.Tree.{together};
 ghost use Rattle.conda_dev.specs.Shares.{in_share};
 
-use crate::lending::{Lending, shared};
+use crate::fault::Target;
+use crate::lending::Lending;
 use crate::mem_lane::MemLane;
+use crate::meter::Meter;
 use crate::tree::{Tree, add_share};
 use conda_base::Copied;
 use conda_device::{Abilities, FaultCount};
-use conda_mem::{Meter, Target};
 use conda_path::Prefix;
 use std::alloc::{AllocError, Global};
 use std::collections::BTreeMap;
 
 /// What the host in memory has of a prefix.
-#[derive(Drop)]
+#[derive(Debug, Drop)]
 pub struct Place {
     pub lent: bool,
     /// The lanes that came back.
@@ -78,7 +79,6 @@ fn lent_lane(
         abilities: lending.abilities,
         tree,
         meter: Meter::new(calls, planned),
-        hold: shared(&lending.hold)?,
     })
 }
 
@@ -211,7 +211,6 @@ fn first_place(alloc: Global, tree: Tree) -> Result<Place, AllocError>
         abilities: Abilities::ALL,
         tree,
         meter: Meter::new(0, Vec::new(alloc)),
-        hold: None,
     };
     let mut lanes = Vec::new(alloc);
     lanes.push(lane)?;

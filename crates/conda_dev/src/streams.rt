@@ -1,7 +1,8 @@
 ghost use Rattle.std.specs.Prelude.{◌≡◌, ◌≤◌, [], drop, Some, IfOk};
 
+use crate::fault::{Effect, FailAt, Target, plan_for};
+use crate::meter::Meter;
 use conda_device::{DeviceErr, Failed, In, Out};
-use conda_mem::{Effect, FailAt, Meter, Target, plan_for};
 use std::alloc::{AllocError, Global};
 
 /// An input of given bytes.

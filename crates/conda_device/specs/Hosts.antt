@@ -1,12 +1,10 @@
 -- What a host tells of itself, and how its calls change that. This project's own.
-use Rattle.std.specs.Prelude.{◌≡◌, ◌≢◌, ◌≤◌, ℕ, ◌+◌, ◌-◌, ◌^◌, List, [], ◌++◌, length, map, min, sum_by, get_or, slice_set, Bool, true, false, ◌&&◌, ◌||◌, not, Option, refl}
-use Rattle.std.specs.Option.{option_to_list}
+use Rattle.std.specs.Prelude.{◌≡◌, ◌≢◌, ◌≤◌, ℕ, ◌+◌, ◌-◌, ◌^◌, List, [], length, map, min, sum_by, get_or, slice_set, Bool, true, false, ◌&&◌, ◌||◌, not, Option, refl}
 use Rattle.std.specs.Str.{bytes_eq}
 use Rattle.std.proofs.Common.{true≢false, ap, subst, sym, ◌∙◌}
 use Rattle.std.proofs.lemmas.List.{length-set}
 use Rattle.std.proofs.lemmas.Slice.Eq.{bytes_eq-Decides}
-use Rattle.conda_device.specs.Channels.{Files}
-use Rattle.conda_device.specs.declared.touched.Got.{Got}
+use Rattle.conda_device.specs.Gots.{Files, Got}
 use Rattle.conda_device.specs.Lanes.{AreNew, InPlace, Share, still_placed}
 use Rattle.conda_device.specs.Tree.{Tree, together}
 
@@ -41,11 +39,6 @@ pub record KeepsHandles (before now : HostState) : Type 0 where
   pub chan_faults : now.chan_faults ≡ before.chan_faults
   pub store_faults : now.store_faults ≡ before.store_faults
 
--- the trees of the prefixes stay, and which of them are lent
-pub record KeepsPrefixes (before now : HostState) : Type 0 where
-  pub told : now.told ≡ before.told
-  pub lent : now.lent ≡ before.lent
-
 -- each prefix has what it had: the tree that is told of it, or whether it is lent
 abbrev pub SameOfAll : {A : Type 0} → (List ℕ → A) → (List ℕ → A) → Type 0
 SameOfAll before now = (prefix : List ℕ) → now prefix ≡ before prefix
@@ -77,27 +70,6 @@ pub record TakesBack {L : Type 0} (told_by : L → Option Tree) (faults_of : L �
   pub lane_faults : now.lane_faults ≡ min (before.lane_faults + sum_by faults_of all) (2 ^ 64 - 1)
   pub faults : now.faults ≡ before.faults
   pub handles : KeepsHandles before now
-
--- A handle on a channel came back. The count of the channels' faults rose by exactly the handle's, or to its last value.
-pub record TakesChan (its_faults : ℕ) (before now : HostState) : Type 0 where
-  pub chan_faults : now.chan_faults ≡ min (before.chan_faults + its_faults) (2 ^ 64 - 1)
-  pub prefixes : KeepsPrefixes before now
-  pub files : now.files ≡ before.files
-  pub gots : now.gots ≡ before.gots
-  pub faults : now.faults ≡ before.faults
-  pub lane_faults : now.lane_faults ≡ before.lane_faults
-  pub store_faults : now.store_faults ≡ before.store_faults
-
--- A handle on the cache folder came back. Its last read stands at the end of the list, where it tells one, and the count of the stores' faults
--- rose by exactly the handle's, or to its last value.
-pub record TakesStore (its_got : Option Got) (its_faults : ℕ) (before now : HostState) : Type 0 where
-  pub gots : now.gots ≡ before.gots ++ option_to_list its_got
-  pub store_faults : now.store_faults ≡ min (before.store_faults + its_faults) (2 ^ 64 - 1)
-  pub prefixes : KeepsPrefixes before now
-  pub files : now.files ≡ before.files
-  pub faults : now.faults ≡ before.faults
-  pub lane_faults : now.lane_faults ≡ before.lane_faults
-  pub chan_faults : now.chan_faults ≡ before.chan_faults
 
 -- ---- laws, for callers of `lanes` and `take_back`
 

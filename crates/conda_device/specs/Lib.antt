@@ -5,6 +5,5 @@ pub mod Trees
 pub mod Lanes
 pub mod Keys
 pub mod Seen
-pub mod Channels
-pub mod Stores
+pub mod Gots
 pub mod Hosts

@@ -23,11 +23,4 @@ impl FaultCount {
     {
         self.count = self.count.saturating_add(1);
     }
-
-    /// Adds the faults of a handle that came back, or goes to the last value. It takes no memory.
-    pub fn add(&mut self, faults: u64)
-        ensures { self.new.count ≡ min (self.old.count + faults) (2 ^ 64 - 1) }
-    {
-        self.count = self.count.saturating_add(faults);
-    }
 }

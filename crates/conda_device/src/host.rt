@@ -1,27 +1,18 @@
-ghost use Rattle.std.specs.Prelude.{◌≡◌, ◌≤◌, [], false, map, IfOk, IfSome, OnOk, OnErr};
+ghost use Rattle.std.specs.Prelude.{◌≡◌, ◌≤◌, false, map, IfOk, OnOk, OnErr};
 ghost use Rattle.conda_device.specs.Fault.{HasDeviceCause};
 ghost use Rattle.conda_device.specs.Hosts.{CanTakeBack, HostState, IsLentToo, KeepsHandles};
-ghost use Rattle.conda_device.specs.Hosts.{KeepsPrefixes, SameOfAll, SameOfOthers, TakesBack};
-ghost use Rattle.conda_device.specs.Hosts.{TakesChan, TakesStore};
+ghost use Rattle.conda_device.specs.Hosts.{SameOfAll, SameOfOthers, TakesBack};
 ghost use Rattle.conda_device.specs.Lanes.{AreNew};
-ghost use Rattle.conda_device.specs.Stores.{IsFresh, last_got};
 ghost use Rattle.conda_device.specs.Tree.{together};
 
-use crate::chan::Chan;
 use crate::fault::DeviceErr;
 use crate::lane::Lane;
-use crate::store::Store;
 use conda_path::Prefix;
 use std::alloc::Global;
 
-/// What lends the lanes of prefixes and takes them back, and gives handles on channels and on the
-/// cache folder.
+/// What lends the lanes of prefixes and takes them back.
 pub trait Host {
     type Lane: Lane;
-
-    type Chan: Chan;
-
-    type Store: Store;
 
     /// What it tells of itself.
     ghost state: { Self → HostState };
@@ -63,35 +54,5 @@ pub trait Host {
     fn take_back(&mut self, prefix: &Prefix, lanes: Vec<Self::Lane>)
         requires { CanTakeBack Self.Lane.share prefix.now lanes.items (state self.old) }
         ensures { TakesBack Self.Lane.told Self.Lane.faults prefix.now lanes.items
-            (state self.old) (state self.new) };
-
-    /// A handle on the channel of this name in the folder `root`. Where there is no such channel, it
-    /// shows no file.
-    fn chan(&mut self, alloc: Global, root: &str, name: &str) -> Result<Self::Chan, DeviceErr>
-        ensures files { IfOk result (λ chan.
-            Self.Chan.files chan ≡ (state self.old).files root.now name.now) }
-        ensures asked { IfOk result (λ chan. IfSome (Self.Chan.asked chan) (λ paths. paths ≡ [])) }
-        ensures unharmed { IfOk result (λ chan. Self.Chan.faults chan ≡ 0) }
-        ensures cause { HasDeviceCause (state self.old).faults (state self.new).faults result }
-        ensures prefixes { KeepsPrefixes (state self.old) (state self.new) }
-        ensures lane_faults { (state self.new).lane_faults ≡ (state self.old).lane_faults }
-        ensures handles { KeepsHandles (state self.old) (state self.new) };
-
-    /// Takes a handle on a channel back. It takes no memory.
-    fn chan_back(&mut self, chan: Self::Chan)
-        ensures { TakesChan (Self.Chan.faults chan) (state self.old) (state self.new) };
-
-    /// A handle on the cache folder `root`. Where there is no such folder, it shows no file.
-    fn store(&mut self, alloc: Global, root: &str) -> Result<Self::Store, DeviceErr>
-        ensures fresh { IfOk result (λ store. IsFresh (Self.Store.told store)) }
-        ensures unharmed { IfOk result (λ store. Self.Store.faults store ≡ 0) }
-        ensures cause { HasDeviceCause (state self.old).faults (state self.new).faults result }
-        ensures prefixes { KeepsPrefixes (state self.old) (state self.new) }
-        ensures lane_faults { (state self.new).lane_faults ≡ (state self.old).lane_faults }
-        ensures handles { KeepsHandles (state self.old) (state self.new) };
-
-    /// Takes a handle on the cache folder back. It takes no memory.
-    fn store_back(&mut self, store: Self::Store)
-        ensures { TakesStore (last_got (Self.Store.told store)) (Self.Store.faults store)
             (state self.old) (state self.new) };
 }

@@ -5,7 +5,7 @@ use Rattle.conda_device.specs.Fault.{HasCause, HasDeviceCause, Rose}
 use Rattle.conda_device.specs.declared.fault.Failed.{Failed}
 use Rattle.conda_device.specs.declared.fault.DeviceErr.{DeviceErr}
 use Rattle.conda_device.specs.declared.fault.DeviceErr.TheVariants as devices
-use Rattle.conda_files.specs.Refusals.{count_after, device_count_after, one_more}
+use Rattle.conda_real.specs.Refusals.{count_after, device_count_after, one_more}
 
 grows : (count : ℕ) → count ≤ one_more count
 grows count = grind (arith, nat_tests)

@@ -1,2 +1,5 @@
+pub mod Refusals
 pub mod RealLanes
 pub mod Lent
+pub mod Places
+pub mod Reads

@@ -1,17 +1,12 @@
 ghost use Rattle.std.specs.Prelude.{◌≡◌, ◌+◌, ◌-◌, ◌^◌, None, IfOk, OnOk, OnErr, min, sum_by};
 ghost use Rattle.conda_device.specs.Hosts.{CanTakeBack, IsLentToo, IsNew, IsReturned, TakesBack};
-ghost use Rattle.conda_device.specs.Hosts.{TakesChan, TakesStore};
 ghost use Rattle.conda_device.specs.Lanes.{AreNew};
-ghost use Rattle.conda_device.specs.Stores.{last_got};
 ghost use Rattle.conda_real.specs.Lent.{is_lent};
 ghost use Rattle.conda_real.specs.RealLanes.{faults_of, share_of};
 
-use crate::chan::RealChan;
 use crate::lane::RealLane;
-use crate::store::RealStore;
 use conda_base::{Copied, Text};
-use conda_device::{Chan, DeviceErr, FaultCount, Host, Lane, Store};
-use conda_files::place_in;
+use conda_device::{DeviceErr, FaultCount, Host, Lane};
 use conda_path::Prefix;
 use std::alloc::{AllocError, Global};
 use std::collections::BTreeMap;
@@ -26,8 +21,6 @@ pub struct RealHost<R: Files + AllocGlobal + Clone + Drop> {
     lent: BTreeMap<Prefix, u32>,
     faults: FaultCount,
     lane_faults: FaultCount,
-    chan_faults: FaultCount,
-    store_faults: FaultCount,
 }
 
 impl<R: Files + AllocGlobal + Clone + Send + Drop> RealHost<R> {
@@ -42,8 +35,6 @@ impl<R: Files + AllocGlobal + Clone + Send + Drop> RealHost<R> {
             lent: BTreeMap::new(alloc),
             faults: FaultCount::new(),
             lane_faults: FaultCount::new(),
-            chan_faults: FaultCount::new(),
-            store_faults: FaultCount::new(),
         })
     }
 }
@@ -104,10 +95,6 @@ fn add_faults<R: Files + AllocGlobal + Clone + Drop>(faults: &mut FaultCount, la
 impl<R: Files + AllocGlobal + Clone + Send + Drop> Host for RealHost<R> {
     type Lane = RealLane<R>;
 
-    type Chan = RealChan<R>;
-
-    type Store = RealStore<R>;
-
     ghost use Rattle.std.specs.Prelude.{[], None};
 
     ghost state = { λ host. record {
@@ -117,8 +104,8 @@ impl<R: Files + AllocGlobal + Clone + Send + Drop> Host for RealHost<R> {
       gots = [];
       faults = host.faults.count;
       lane_faults = host.lane_faults.count;
-      chan_faults = host.chan_faults.count;
-      store_faults = host.store_faults.count;
+      chan_faults = 0;
+      store_faults = 0;
     } };
 
     fn faults(&self) -> u64 {
@@ -147,30 +134,5 @@ impl<R: Files + AllocGlobal + Clone + Send + Drop> Host for RealHost<R> {
     {
         add_faults(&mut self.lane_faults, &lanes);
         forget(&mut self.lent, prefix);
-    }
-
-    fn chan(&mut self, alloc: Global, root: &str, name: &str) -> Result<RealChan<R>, DeviceErr> {
-        let folder = Text::from_string(place_in(alloc, root, name)?);
-        Ok(RealChan::make(self.rt.clone()?, folder))
-    }
-
-    fn chan_back(&mut self, chan: RealChan<R>)
-        ensures { TakesChan (⟦<RealChan<R> as Chan>⟧.faults chan)
-            (⟦<RealHost<R> as Host>⟧.state self.old) (⟦<RealHost<R> as Host>⟧.state self.new) }
-    {
-        self.chan_faults.add(chan.faults());
-    }
-
-    fn store(&mut self, alloc: Global, root: &str) -> Result<RealStore<R>, DeviceErr> {
-        let root = Text::from_str(alloc, root)?;
-        Ok(RealStore::make(self.rt.clone()?, root))
-    }
-
-    fn store_back(&mut self, store: RealStore<R>)
-        ensures { TakesStore (last_got (⟦<RealStore<R> as Store>⟧.told store))
-            (⟦<RealStore<R> as Store>⟧.faults store)
-            (⟦<RealHost<R> as Host>⟧.state self.old) (⟦<RealHost<R> as Host>⟧.state self.new) }
-    {
-        self.store_faults.add(store.faults());
     }
 }

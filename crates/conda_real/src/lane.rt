@@ -1,11 +1,13 @@
 ghost use Rattle.std.specs.Prelude.{◌≡◌, ◌≤◌};
 
+use crate::coming::{Coming, bring, drop_empty, make};
+use crate::places::{Found, found_at, is_behind_link};
+use crate::reading::{node_at, seen_at};
+use crate::refusal::{done, refused};
+use crate::share::Share;
+use crate::walk::paths_below;
 use conda_base::Text;
 use conda_device::{Abilities, DeviceErr, Failed, FaultCount, Lane, Seen};
-use conda_files::{
-    Coming, Found, Share, bring, done, drop_empty, found_at, is_behind_link, make, node_at,
-    paths_below, place_in, refused, seen_at, slot_folder, temporary_place,
-};
 use conda_path::{Kind, Node, RelPath, StorePath};
 use std::alloc::{AllocError, Global};
 use std::io::{self, ErrorKind};
@@ -48,7 +50,7 @@ impl<R: Files + AllocGlobal + Clone + Drop> RealLane<R> {
 
     /// Where a path lies on the machine.
     fn place(&self, alloc: Global, path: &RelPath) -> Result<String, AllocError> {
-        place_in(alloc, self.folder.as_str(), path.as_str())
+        format!(in alloc; "{}/{}", self.folder.as_str(), path.as_str())
     }
 
     /// Where a path lies that is to change. What lies behind a soft link isn't to.
@@ -69,18 +71,33 @@ impl<R: Files + AllocGlobal + Clone + Drop> RealLane<R> {
         Ok(place)
     }
 
+    /// The temporary place in the folder of a place. Its name is no path of a tree, and no other
+    /// lane has it.
+    fn temporary(&self, place: &str) -> Result<String, AllocError> {
+        let folder = match place.rsplit_once('/') {
+            Some((folder, _)) => folder,
+            None => "",
+        };
+        let number = self.share.number;
+        format!(in self.rt.alloc(); "{folder}/.conda-{number}\u{7f}")
+    }
+
     /// The file of the cache that a path names.
-    fn cached(&self, from: &StorePath) -> io::Result<String> {
-        let alloc = self.rt.alloc();
-        let folder = slot_folder(alloc, self.pkgs.as_str(), &from.key)?;
-        Ok(place_in(alloc, folder.as_str(), from.path.as_str())?)
+    fn cached(&self, from: &StorePath) -> Result<String, AllocError> {
+        format!(in self.rt.alloc();
+            "{}/{}/{}/{}/{}",
+            self.pkgs.as_str(),
+            from.key.channel.as_str(),
+            from.key.subdir.as_str(),
+            from.key.dist.text(),
+            from.path.as_str()
+        )
     }
 
     /// Makes a node at a place, over a file or a link that is there.
     fn write(&self, place: &str, node: &Node) -> io::Result<()> {
-        let temporary = temporary_place(self.rt.alloc(), place, self.share.number)?;
-        let bytes = node.bytes.as_slice();
-        let made = make(&self.rt, temporary.as_str(), place, node.kind, bytes);
+        let temporary = self.temporary(place)?;
+        let made = make(&self.rt, temporary.as_str(), place, node);
         if made.is_err() {
             drop_empty(&self.rt, self.folder.as_str(), place);
         }
@@ -91,21 +108,17 @@ impl<R: Files + AllocGlobal + Clone + Drop> RealLane<R> {
         self.write(self.room(path)?.as_str(), node)
     }
 
-    /// Links a file of the cache to a place. A link is never made over what is there.
-    fn link(&self, place: &str, from: &StorePath) -> io::Result<()> {
-        let cached = self.cached(from)?;
-        bring(&self.rt, Coming::Linked(cached.as_str()), place)
-    }
-
     /// Links a file of the cache, or where that can't be done writes it.
     fn put_link(&self, path: &RelPath, from: &StorePath, node: &Node) -> io::Result<()> {
+        let place = self.room(path)?;
         if node.kind != Kind::Soft {
-            let place = self.open_place(path)?;
-            if self.link(place.as_str(), from).is_ok() {
+            let cached = self.cached(from)?;
+            let linked = bring(&self.rt, Coming::Linked(cached.as_str()), place.as_str());
+            if linked.is_ok() {
                 return Ok(());
             }
         }
-        self.put_node(path, node)
+        self.write(place.as_str(), node)
     }
 
     fn move_node(&self, from: &RelPath, to: &RelPath) -> io::Result<()> {

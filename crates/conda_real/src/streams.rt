@@ -1,8 +1,8 @@
 ghost use Rattle.std.specs.Prelude.{◌≡◌, ◌≤◌, IfOk, length};
-ghost use Rattle.conda_files.specs.Refusals.{device_count_after};
+ghost use Rattle.conda_real.specs.Refusals.{device_count_after};
 
+use crate::refusal::refused;
 use conda_device::{DeviceErr, Failed, FaultCount, In, Out};
-use conda_files::refused;
 use std::alloc::Global;
 use std::io;
 use std::io::{ErrorKind, Read, Write};

@@ -1,8 +1,6 @@
 ghost use Rattle.std.specs.Prelude.{◌≡◌, false};
 
-use crate::chan::{run_chans, watch_chans};
 use crate::lane::{run_in_host, run_in_lane, shares_of};
-use crate::store::run_stores;
 use conda_base::Text;
 use conda_dev::{
     Clock, DeviceErr, FixedClock, Host, In, Lane, MemHost, MemIn, MemLane, MemOut, Out, Seen, Tree,
@@ -11,16 +9,10 @@ use conda_path::{Prefix, RelPath};
 use rows_plan::{kind_word, plan_of, tree_of};
 use rows_text::shown;
 use std::alloc::{AllocError, Global};
-use std::sync::Wait;
 
 /// The rows of conda_dev. The first argument is a plan of failing calls, the second of `lane` and
 /// `host` a tree of nodes `PATH KIND TEXT`, parted by `;`.
-pub fn answer<R: Wait + Sync>(
-    rt: &R,
-    alloc: Global,
-    call: &str,
-    arguments: &[Text],
-) -> Result<Option<String>, AllocError> {
+pub fn answer(alloc: Global, call: &str, arguments: &[Text]) -> Result<Option<String>, AllocError> {
     match (call, arguments) {
         ("lane.look", [plan, tree, paths]) => {
             look_in_lane(alloc, plan.as_str(), tree.as_str(), paths.as_str())
@@ -29,36 +21,16 @@ pub fn answer<R: Wait + Sync>(
             run_in_lane(alloc, plan.as_str(), tree.as_str(), calls.as_str())
         }
         ("host.run", [stop, abilities, tree, calls]) => run_in_host(
-            rt,
             alloc,
             stop.as_str(),
             abilities.as_str(),
             tree.as_str(),
             calls.as_str(),
         ),
-        ("host.shares", [lanes, tree]) => shares_of(rt, alloc, lanes.as_str(), tree.as_str()),
+        ("host.shares", [lanes, tree]) => shares_of(alloc, lanes.as_str(), tree.as_str()),
         ("host.look", [plan, tree, paths]) => {
-            look_in_host(rt, alloc, plan.as_str(), tree.as_str(), paths.as_str())
+            look_in_host(alloc, plan.as_str(), tree.as_str(), paths.as_str())
         }
-        ("chan.run", [plan, files, open, calls]) => run_chans(
-            rt,
-            alloc,
-            plan.as_str(),
-            files.as_str(),
-            open.as_str(),
-            calls.as_str(),
-        ),
-        ("chan.watch", [files, path, calls]) => {
-            watch_chans(rt, alloc, files.as_str(), path.as_str(), calls.as_str())
-        }
-        ("store.run", [plan, cached, handles, calls]) => run_stores(
-            rt,
-            alloc,
-            plan.as_str(),
-            cached.as_str(),
-            handles.as_str(),
-            calls.as_str(),
-        ),
         ("output.put", [plan, texts]) => put_all(alloc, plan.as_str(), texts.as_str()),
         ("input.take", [plan, text, sizes]) => {
             take_all(alloc, plan.as_str(), text.as_str(), sizes.as_str())
@@ -127,8 +99,7 @@ fn look_once<H: Host>(
     seen.ok()
 }
 
-fn look_in_host<R: Wait + Sync>(
-    rt: &R,
+fn look_in_host(
     alloc: Global,
     plan: &str,
     tree: &str,
@@ -139,14 +110,7 @@ fn look_in_host<R: Wait + Sync>(
     };
     let mut prefixes = Vec::new(alloc);
     prefixes.push((prefix.clone()?, tree_of(alloc, tree)?))?;
-    let mut host = MemHost::make(
-        rt,
-        alloc,
-        prefixes,
-        Vec::new(alloc),
-        Vec::new(alloc),
-        plan_of(alloc, plan)?,
-    )?;
+    let mut host = MemHost::make(alloc, prefixes, plan_of(alloc, plan)?)?;
     look_at_all(alloc, &mut host, &prefix, paths)
 }
 

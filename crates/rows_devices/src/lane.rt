@@ -1,5 +1,4 @@
 ghost use Rattle.std.specs.Prelude.{◌≡◌, false, IfOk};
-ghost use Rattle.conda_dev.specs.Memory.{host_state};
 
 use conda_dev::{Abilities, Host, Lane, MemHost, MemLane};
 use conda_path::Prefix;
@@ -8,7 +7,6 @@ use rows_plan::{
     shown_seen, shown_tree, target_of, tree_of, word,
 };
 use std::alloc::{AllocError, Global};
-use std::sync::Wait;
 
 /// A call that puts a node where none is, which the lane asks of its callers.
 fn put(
@@ -161,40 +159,24 @@ pub fn run_in_lane(
     Ok(Some(run_all(alloc, &mut lane, calls)?))
 }
 
-fn host_of<R: Wait + Clone + Drop>(
-    rt: R,
-    alloc: Global,
-    prefix: &Prefix,
-    tree: &str,
-) -> Result<MemHost<R>, AllocError>
-    ensures { IfOk result (λ host. (host_state host).lent prefix.now ≡ false) }
+fn host_of(alloc: Global, prefix: &Prefix, tree: &str) -> Result<MemHost, AllocError>
+    ensures { IfOk result (λ host.
+        (⟦<MemHost as Host>⟧.state host).lent prefix.now ≡ false) }
 {
     let mut prefixes = Vec::new(alloc);
     prefixes.push((prefix.clone()?, tree_of(alloc, tree)?))?;
-    MemHost::make(
-        rt,
-        alloc,
-        prefixes,
-        Vec::new(alloc),
-        Vec::new(alloc),
-        Vec::new(alloc),
-    )
+    MemHost::make(alloc, prefixes, Vec::new(alloc))
 }
 
 /// The paths of each of so many lanes of one tree.
-pub fn shares_of<R: Wait + Sync>(
-    rt: &R,
-    alloc: Global,
-    lanes: &str,
-    tree: &str,
-) -> Result<Option<String>, AllocError> {
+pub fn shares_of(alloc: Global, lanes: &str, tree: &str) -> Result<Option<String>, AllocError> {
     let (Ok(lanes), Ok(prefix)) = (lanes.parse::<u32>(), Prefix::read(alloc, "/e")) else {
         return Ok(None);
     };
     if lanes == 0 {
         return Ok(None);
     }
-    let mut host = host_of(rt, alloc, &prefix, tree)?;
+    let mut host = host_of(alloc, &prefix, tree)?;
     let Ok(mut lanes) = host.lanes(alloc, &prefix, "", lanes) else {
         return Ok(None);
     };
@@ -216,8 +198,7 @@ fn has(words: &str, asked: &str) -> bool {
 
 /// Makes calls of the only lane of a host whose target fails from a call on, and whose lanes can do
 /// what is said.
-pub fn run_in_host<R: Wait + Sync>(
-    rt: &R,
+pub fn run_in_host(
     alloc: Global,
     stop: &str,
     abilities: &str,
@@ -227,7 +208,7 @@ pub fn run_in_host<R: Wait + Sync>(
     let Ok(prefix) = Prefix::read(alloc, "/e") else {
         return Ok(None);
     };
-    let mut host = host_of(rt, alloc, &prefix, tree)?;
+    let mut host = host_of(alloc, &prefix, tree)?;
     stop_at(alloc, &mut host, stop)?;
     host.set_abilities(Abilities {
         hard: has(abilities, "hard"),
@@ -242,12 +223,8 @@ pub fn run_in_host<R: Wait + Sync>(
 }
 
 /// Makes a target fail from a call on, where the text is `TARGET from CALL EFFECT`.
-fn stop_at<R: Wait + Clone + Drop>(
-    alloc: Global,
-    host: &mut MemHost<R>,
-    text: &str,
-) -> Result<(), AllocError>
-    ensures { host_state host.new ≡ host_state host.old }
+fn stop_at(alloc: Global, host: &mut MemHost, text: &str) -> Result<(), AllocError>
+    ensures { ⟦<MemHost as Host>⟧.state host.new ≡ ⟦<MemHost as Host>⟧.state host.old }
 {
     let Some((target, at)) = text.split_once(" from ") else {
         return Ok(());

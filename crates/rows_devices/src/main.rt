@@ -1,27 +1,18 @@
 //! The rows of the devices and of the machine over events.
 #![tactic(auto)]
 
-mod chan;
-mod checked;
 mod dev;
-mod held;
 mod lane;
 mod machine;
-mod store;
 
 use conda_base::Text;
 use rows_text::{Table, print_rows};
 use std::alloc::{AllocError, Global};
 use std::io;
-use std::sync::Wait;
-use std::thread::Threads;
 
-#[derive(Drop)]
-struct Devices<R> {
-    rt: R,
-}
+struct Devices;
 
-impl<R: Threads + Wait + Sync> Table for Devices<R> {
+impl Table for Devices {
     fn answer(
         &self,
         alloc: Global,
@@ -31,17 +22,10 @@ impl<R: Threads + Wait + Sync> Table for Devices<R> {
         if let Some(answer) = machine::answer(alloc, call, arguments)? {
             return Ok(Some(answer));
         }
-        if let Some(answer) = held::answer(&self.rt, alloc, call, arguments)? {
-            return Ok(Some(answer));
-        }
-        if let Some(answer) = checked::answer(&self.rt, alloc, call, arguments)? {
-            return Ok(Some(answer));
-        }
-        dev::answer(&self.rt, alloc, call, arguments)
+        dev::answer(alloc, call, arguments)
     }
 }
 
 fn main(rt: HostRuntime) -> io::Result<()> {
-    let devices = Devices { rt: rt.clone()? };
-    print_rows(&rt, &devices)
+    print_rows(&rt, &Devices)
 }

@@ -2,7 +2,6 @@
 //! temporary folder.
 #![tactic(auto)]
 
-mod handles;
 mod lane;
 mod setting;
 
@@ -27,20 +26,6 @@ impl Table for Folders {
     ) -> Result<Option<String>, AllocError> {
         match (call, arguments) {
             ("run", [things, calls]) => lane::answer(
-                alloc,
-                &self.rt,
-                self.top.as_str(),
-                things.as_str(),
-                calls.as_str(),
-            ),
-            ("chan", [things, calls]) => handles::chan_answer(
-                alloc,
-                &self.rt,
-                self.top.as_str(),
-                things.as_str(),
-                calls.as_str(),
-            ),
-            ("store", [things, calls]) => handles::store_answer(
                 alloc,
                 &self.rt,
                 self.top.as_str(),

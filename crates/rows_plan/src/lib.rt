@@ -3,11 +3,9 @@
 #![tactic(auto)]
 
 mod answers;
-mod handles;
 mod nodes;
 mod plan;
 
 pub use answers::{cached, path_of, shown_abilities, shown_node, shown_paths, shown_seen, word};
-pub use handles::{first_word, key_of, run_chan, run_store, shown_bytes, shown_look};
-pub use nodes::{kind_word, named_nodes, node_of, shown_tree, tree_of};
+pub use nodes::{kind_word, node_of, shown_tree, tree_of};
 pub use plan::{effect_of, plan_of, target_of};

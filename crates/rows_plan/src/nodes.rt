@@ -1,4 +1,4 @@
-use conda_base::{Bytes, Rows, Text};
+use conda_base::Bytes;
 use conda_dev::Tree;
 use conda_path::{Kind, Node, RelPath};
 use std::alloc::{AllocError, Global};
@@ -46,25 +46,6 @@ pub fn tree_of(alloc: Global, text: &str) -> Result<Tree, AllocError> {
         }
     }
     Ok(tree)
-}
-
-/// The nodes of a text, as those of `tree_of`, by paths that may be any text without space.
-pub fn named_nodes(alloc: Global, text: &str) -> Result<Rows<(Text, Node)>, AllocError> {
-    let mut nodes = Rows::new(alloc);
-    for entry in text.split(';') {
-        let Some((path, rest)) = entry.trim().split_once(' ') else {
-            continue;
-        };
-        let (kind, bytes) = match rest.split_once(' ') {
-            Some(cut) => cut,
-            None => (rest, ""),
-        };
-        let path = Text::from_str(alloc, path)?;
-        let bytes = Bytes::from_slice(alloc, bytes.as_bytes())?;
-        let kind = kind_of(kind);
-        nodes.push((path, Node { kind, bytes }))?;
-    }
-    Ok(nodes)
 }
 
 /// The nodes of a tree as text, by path.

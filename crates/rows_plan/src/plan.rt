@@ -2,8 +2,8 @@ use conda_dev::{Effect, FailAt, Target};
 use conda_path::Prefix;
 use std::alloc::{AllocError, Global};
 
-/// The plan of failing calls that a text gives, parted by `;`: `host`, `input`, `output`, `chan
-/// NUMBER`, `store NUMBER` or `lane PREFIX NUMBER`, then `fails at CALL before` or `fails at CALL after`. What isn't of this form is
+/// The plan of failing calls that a text gives, parted by `;`: `host`, `input`, `output` or `lane
+/// PREFIX NUMBER`, then `fails at CALL before` or `fails at CALL after`. What isn't of this form is
 /// passed over.
 pub fn plan_of(alloc: Global, text: &str) -> Result<Vec<FailAt>, AllocError> {
     let mut plan = Vec::new(alloc);
@@ -33,21 +33,12 @@ fn fail_of(alloc: Global, words: &[&str]) -> Option<FailAt> {
     }
 }
 
-/// The target that words name: `host`, `input`, `output`, `chan NUMBER`, `store NUMBER` or `lane
-/// PREFIX NUMBER`.
+/// The target that words name: `host`, `input`, `output` or `lane PREFIX NUMBER`.
 pub fn target_of(alloc: Global, words: &[&str]) -> Option<Target> {
     match words {
         ["host"] => Some(Target::Host),
         ["input"] => Some(Target::Input),
         ["output"] => Some(Target::Output),
-        ["chan", number] => match number.parse::<u32>() {
-            Ok(number) => Some(Target::Chan(number)),
-            Err(_) => None,
-        },
-        ["store", number] => match number.parse::<u32>() {
-            Ok(number) => Some(Target::Store(number)),
-            Err(_) => None,
-        },
         ["lane", prefix, number] => {
             let Ok(prefix) = Prefix::read(alloc, *prefix) else {
                 return None;

@@ -10,7 +10,7 @@ use std::thread::Threads;
 
 /// The rows of conda_cli. `run WORDS|PLAN|PREFIX|HISTORY` runs the words over a machine on which the environment at
 /// PREFIX has this history; without the last two nothing is there. The answer is the status and what was printed.
-pub fn answer<R: Threads + Wait + Sync>(
+pub fn answer<R: Threads + Wait>(
     rt: &R,
     alloc: Global,
     call: &str,
@@ -54,7 +54,7 @@ fn words_of(alloc: Global, text: &str) -> Result<Vec<String>, AllocError> {
     Ok(words)
 }
 
-fn run_on<R: Threads + Wait + Sync>(
+fn run_on<R: Threads + Wait>(
     rt: &R,
     alloc: Global,
     words: &str,
@@ -62,16 +62,8 @@ fn run_on<R: Threads + Wait + Sync>(
     prefixes: Vec<(Prefix, Tree)>,
 ) -> Result<String, AllocError> {
     let words = words_of(alloc, words)?;
-    let plan = plan_of(alloc, plan)?;
-    let host = MemHost::make(
-        rt,
-        alloc,
-        prefixes,
-        Vec::new(alloc),
-        Vec::new(alloc),
-        plan.clone()?,
-    )?;
-    let mut out = MemOut::make(alloc, plan)?;
+    let host = MemHost::make(alloc, prefixes, plan_of(alloc, plan)?)?;
+    let mut out = MemOut::make(alloc, plan_of(alloc, plan)?)?;
     let mut input = MemIn::make(alloc, Vec::new(alloc), Vec::new(alloc))?;
     let mut clock = FixedClock::make(1_714_557_600);
     let ended = run(

@@ -15,7 +15,7 @@ struct Program<R> {
     rt: R,
 }
 
-impl<R: Threads + Wait + Sync> Table for Program<R> {
+impl<R: Threads + Wait> Table for Program<R> {
     fn answer(
         &self,
         alloc: Global,

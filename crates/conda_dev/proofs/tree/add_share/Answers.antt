@@ -1,8 +1,7 @@
 use Rattle.std.proofs.Common.{eq-eqb, ne_eqb, ap, sym, ◌∙◌}
 use Rattle.std.specs.FinMap as map
 use Rattle.conda_dev.specs.Shares.{first_of, in_share}
-use Rattle.conda_mem.specs.Entries.{get_tree}
-use Rattle.conda_dev.proofs.TreeLemmas.{at_path, share_put, share_elsewhere, share_there, none_of}
+use Rattle.conda_dev.proofs.TreeLemmas.{at_path, get_tree, share_put, share_elsewhere, share_there, none_of}
 use Rattle.conda_dev.proofs.tree.add_share.Goals as goal
 
 pub loop-path-init : goal.loop-path-init

@@ -1,6 +1,6 @@
 use Rattle.std.proofs.Common.{ap, sym, ◌∙◌}
 use Rattle.std.specs.FinMap as map
-use Rattle.conda_mem.specs.Entries.{get_tree}
+use Rattle.conda_dev.proofs.TreeLemmas.{get_tree}
 use Rattle.conda_dev.proofs.tree.Tree.get.Goals as goal
 
 pub returns : goal.returns

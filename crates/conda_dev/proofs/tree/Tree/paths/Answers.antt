@@ -1,7 +1,7 @@
 use Rattle.std.proofs.Common.{◌++◌, ap, sym, ◌∙◌}
 use Rattle.std.specs.FinMap as map
 use Rattle.std.specs.Map.{keys_of}
-use Rattle.conda_mem.specs.Entries.{keys_tree}
+use Rattle.conda_dev.proofs.TreeLemmas.{keys_tree}
 use Rattle.conda_dev.proofs.tree.Tree.paths.Goals as goal
 
 pub loop-path-init : goal.loop-path-init

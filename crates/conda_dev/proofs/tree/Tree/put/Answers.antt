@@ -1,6 +1,6 @@
 use Rattle.std.proofs.Common.{ap, ◌∙◌}
 use Rattle.std.specs.FinMap as map
-use Rattle.conda_mem.specs.Entries.{one_put}
+use Rattle.conda_dev.proofs.TreeLemmas.{one_put}
 use Rattle.conda_dev.proofs.tree.Tree.put.Goals as goal
 
 pub returns-clause-ok : goal.returns-clause-ok

@@ -1,7 +1,0 @@
-use Rattle.std.proofs.Common.{ap, sym, ◌∙◌}
-use Rattle.std.specs.FinMap as map
-use Rattle.conda_mem.specs.Entries.{get_tree}
-use Rattle.conda_mem.proofs.nodes.Nodes.get.Goals as goal
-
-pub returns : goal.returns
-returns c = c.get.ensures.value ∙ sym (get_tree c.self.inside.nodes.entries c.args.path.now) ∙ ap (λ tree. map.get tree c.args.path.now) c.self.view_is
