@@ -4,7 +4,7 @@
 set -eu
 . "$(dirname "$0")/program.sh"
 
-build devices_bench conda_base conda_path conda_device conda_files conda_real <<'PROGRAM'
+build devices_bench conda_base conda_path conda_device conda_real <<'PROGRAM'
 #![tactic(auto)]
 
 ghost use Rattle.std.specs.Prelude.{◌≡◌};
