@@ -1,8 +1,6 @@
 //! The rows of the solver and its checker.
 #![tactic(auto)]
 
-mod index;
-mod packages;
 mod refute;
 mod sat;
 
@@ -10,23 +8,16 @@ use conda_base::Text;
 use rows_text::{Table, print_rows};
 use std::alloc::{AllocError, Global};
 use std::io;
-use std::thread::Threads;
 
-#[derive(Drop)]
-struct Solver<'a, R> {
-    rt: &'a R,
-}
+struct Solver;
 
-impl<'a, R: Threads + Sync> Table for Solver<'a, R> {
+impl Table for Solver {
     fn answer(
         &self,
         alloc: Global,
         call: &str,
         arguments: &[Text],
     ) -> Result<Option<String>, AllocError> {
-        if call.starts_with("index.") {
-            return index::answer(self.rt, alloc, call, arguments);
-        }
         if let Some(answer) = refute::answer(alloc, call, arguments)? {
             return Ok(Some(answer));
         }
@@ -35,5 +26,5 @@ impl<'a, R: Threads + Sync> Table for Solver<'a, R> {
 }
 
 fn main(rt: HostRuntime) -> io::Result<()> {
-    print_rows(&rt, &Solver { rt: &rt })
+    print_rows(&rt, &Solver)
 }
