@@ -5,6 +5,7 @@ mod changes;
 mod checks;
 mod edits;
 mod goods;
+mod meta;
 mod shelf;
 
 use conda_base::Text;
@@ -22,6 +23,9 @@ impl Table for Environments {
         arguments: &[Text],
     ) -> Result<Option<String>, AllocError> {
         if let Some(answer) = changes::answer(alloc, call, arguments)? {
+            return Ok(Some(answer));
+        }
+        if let Some(answer) = meta::answer(alloc, call, arguments)? {
             return Ok(Some(answer));
         }
         goods::answer(alloc, call, arguments)
