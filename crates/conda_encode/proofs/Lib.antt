@@ -17,3 +17,4 @@ pub mod Bounds
 pub mod Within
 pub mod Marking
 pub mod Reaching
+pub mod Conditions

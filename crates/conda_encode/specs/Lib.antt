@@ -6,3 +6,4 @@ pub mod Models
 pub mod Sides
 pub mod Known
 pub mod Marks
+pub mod Fit

@@ -16,7 +16,7 @@ use Rattle.conda_encode.specs.declared.asked.AskKind.TheVariants.{Wanted}
 abbrev pub AreNumbers : ℕ → List ℤ → Type 0
 AreNumbers count literals = (l : ℤ) → Contains literals l → (1 ≤ variable_of l) × (variable_of l ≤ count)
 
--- what was marked is marked, and no mark was added at the end
+-- what was marked is marked
 abbrev pub Grows : List Bool → List Bool → Type 0
 Grows before after = (n : ℕ) → 1 ≤ n → side_of before n ≡ true → side_of after n ≡ true
 

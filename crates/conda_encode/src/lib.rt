@@ -14,6 +14,7 @@ mod marks;
 mod matching;
 mod once;
 mod reach;
+mod request;
 mod write;
 mod written;
 
@@ -24,3 +25,4 @@ pub use encoding::encode;
 pub use error::EncodeErr;
 pub use laws::encode_laws;
 pub use matching::names_record;
+pub use request::is_request;
