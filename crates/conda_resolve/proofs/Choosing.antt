@@ -316,10 +316,12 @@ choice_from pools items request installed (set, solution) =
     let w : (end : List PkgRecord) × LeadsTo pools items installed [] end
     = walk (left [] (records pools)) pools items installed [] (omega arith) request (nothing_sound pools items) m.0 m.1 (λ x i. absurd i) in
     let solves = leads_solves pools items installed [] w.0 request w.1 [] refl (nothing_sound pools items) (inr refl) in
-    let s = by_name w.0 solves.apart in
-    (s.set, record {
-      decided = w.0;
-      leads = w.1;
-      same = λ m. (λ c. to_contains s.set m (s.into m (from_contains w.0 m c)), λ c. to_contains w.0 m (s.from m (from_contains s.set m c)));
-      by_name = s.ascends;
-    })
+    let s = by_name w.0 solves.apart in (
+      s.set,
+      record {
+        decided = w.0;
+        leads = w.1;
+        same = λ m. (λ c. to_contains s.set m (s.into m (from_contains w.0 m c)), λ c. to_contains w.0 m (s.from m (from_contains s.set m c)));
+        by_name = s.ascends;
+      },
+    )

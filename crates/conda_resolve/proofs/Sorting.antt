@@ -72,13 +72,13 @@ put m [] a other = record {
 put m (k ∷ ks) a other =
     elim (compare (name_of m) (name_of k)) [
       | inl less ↦ record {
-          out = m ∷ k ∷ ks;
-          ascends = (less, a);
-          front = λ text h lt. lt;
-          here = inl refl;
-          rest = λ l i. inr i;
-          only = λ l i. i;
-        }
+        out = m ∷ k ∷ ks;
+        ascends = (less, a);
+        front = λ text h lt. lt;
+        here = inl refl;
+        rest = λ l i. inr i;
+        only = λ l i. i;
+      }
       | inr (inl same) ↦ absurd (other k (inl refl) same)
       | inr (inr more) ↦
           let p = put m ks a.1 (λ l i. other l (inr i)) in
@@ -89,9 +89,9 @@ put m (k ∷ ks) a other =
             here = inr p.here;
             rest = λ l i. elim i as (λ _. In l (k ∷ p.out)) [ inl e ↦ inl e | inr j ↦ inr (p.rest l j) ];
             only = λ l i. elim i as (λ _. (m ≡ l) ⊎ In l (k ∷ ks)) [
-                | inl e ↦ inr (inl e)
-                | inr j ↦ elim (p.only l j) [ inl e ↦ inl e | inr h ↦ inr (inr h) ]
-              ];
+              | inl e ↦ inr (inl e)
+              | inr j ↦ elim (p.only l j) [ inl e ↦ inl e | inr h ↦ inr (inr h) ]
+            ];
           }
     ]
 
@@ -109,9 +109,9 @@ by_name (m ∷ ms) apart =
     record {
       set = p.out;
       into = λ k i. elim i as (λ _. In k p.out) [
-          | inl e ↦ (let P : PkgRecord → Type 0 = λ r. In r p.out in subst P e p.here)
-          | inr j ↦ p.rest k (s.into k j)
-        ];
+        | inl e ↦ (let P : PkgRecord → Type 0 = λ r. In r p.out in subst P e p.here)
+        | inr j ↦ p.rest k (s.into k j)
+      ];
       from = λ k i. elim (p.only k i) [ inl e ↦ inl e | inr j ↦ inr (s.from k j) ];
       ascends = p.ascends;
     }

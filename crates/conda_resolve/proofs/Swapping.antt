@@ -58,14 +58,13 @@ swap pools w set x chooses i c =
     let only_old : (z : Numbered) → In z (variables pools) → w z.0 ≡ true → name_of x.1 ≡ name_of z.1 → z.0 ≡ old
     = λ z k h same. sym (chooses.once (old, x.1) z o.1 (to_contains (variables pools) z k) o.2 h same) in
     let mixed : (y z : Numbered) → In y (variables pools) → In z (variables pools) → y.0 ≡ x.0 → (z.0 ≡ old → ⊥) × (w z.0 ≡ true) → name_of y.1 ≡ name_of z.1 → ⊥
-    = λ y z k l e h same. h.0 (only_old z l h.1 (ap name_of (once x i y k (sym e)) ∙ same)) in
-    (
+    = λ y z k l e h same. h.0 (only_old z l h.1 (ap name_of (once x i y k (sym e)) ∙ same)) in (
       swapped w x.0 old,
       record {
         only = λ z k h. elim (true_at w x.0 old z.0 h) [
-            | inl e ↦ (let P : PkgRecord → Type 0 = λ r. Contains set r in subst P (once x i z (from_contains (variables pools) z k) (sym e)) c)
-            | inr g ↦ chooses.only z k g.1
-          ];
+          | inl e ↦ (let P : PkgRecord → Type 0 = λ r. Contains set r in subst P (once x i z (from_contains (variables pools) z k) (sym e)) c)
+          | inr g ↦ chooses.only z k g.1
+        ];
         all = λ m d.
             let n = chooses.all m d in
             let k : In (n.0, m) (variables pools) = from_contains (variables pools) (n.0, m) n.1 in
@@ -100,11 +99,14 @@ swap_all pools w set [] chooses vars differ all = (w, chooses, λ x i. absurd i)
 swap_all pools w set (x ∷ xs) chooses vars differ all =
     let r : (u : ℕ → Bool) × Chooses pools u set × AllTrue pools u xs = swap_all pools w set xs chooses (λ y i. vars y (inr i)) differ.1 (λ y i. all y (inr i)) in
     let s = swap pools r.0 set x r.1 (vars x (inl refl)) (all x (inl refl)) in
-    let P : Numbered → Type 0 = λ y. IsTrueOf pools s.0 y in
-    (s.0, s.1, λ y i. elim i as (λ _. IsTrueOf pools s.0 y) [
+    let P : Numbered → Type 0 = λ y. IsTrueOf pools s.0 y in (
+      s.0,
+      s.1,
+      λ y i. elim i as (λ _. IsTrueOf pools s.0 y) [
         | inl e ↦ subst P e (vars x (inl refl), s.2)
         | inr j ↦ (vars y (inr j), s.3 y (vars y (inr j)) (differ.0 y j) (r.2 y j).1)
-      ])
+      ],
+    )
 
 -- a solution that has all of these is a model in which their own variables are true
 pub stands_in_model : (pools : List NamePool) (items : List Asked) (set : List PkgRecord) (xs : List Numbered) → IsRequest pools items → IsSolution set items pools →
@@ -113,7 +115,10 @@ pub stands_in_model : (pools : List NamePool) (items : List Asked) (set : List P
 stands_in_model pools items set xs request solution vars differ all =
     let m = solution_model pools items request set solution in
     let s = swap_all pools m.0 set xs m.2 vars differ all in
-    let n = same_model pools items request set solution s.0 s.1 in
-    (n.0, n.1, λ x i.
-        let lt : x.0 < 1 + length (records pools) = number_high 1 (records pools) x (vars x i) in
-        (vars x i, n.2 x.0 (omega (arith, lt)) ∙ (s.2 x i).1))
+    let n = same_model pools items request set solution s.0 s.1 in (
+      n.0,
+      n.1,
+      λ x i.
+          let lt : x.0 < 1 + length (records pools) = number_high 1 (records pools) x (vars x i) in
+          (vars x i, n.2 x.0 (omega (arith, lt)) ∙ (s.2 x i).1),
+    )

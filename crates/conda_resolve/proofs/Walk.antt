@@ -95,10 +95,10 @@ pub differ_more : (xs : List Numbered) (x : Numbered) → Differ xs → ((y : Nu
 differ_more [] x d other = (λ y i. absurd i, tt)
 differ_more (y ∷ ys) x d other = (
   λ z i e. elim (in_either ys (x ∷ []) z i) [
-      | inl j ↦ d.0 z j e
-      | inr (inl f) ↦ other y (inl refl) (e ∙ ap (λ (u : Numbered). name_of u.1) (sym f))
-      | inr (inr j) ↦ absurd j
-    ],
+    | inl j ↦ d.0 z j e
+    | inr (inl f) ↦ other y (inl refl) (e ∙ ap (λ (u : Numbered). name_of u.1) (sym f))
+    | inr (inr j) ↦ absurd j
+  ],
   differ_more ys x d.1 (λ z i. other z (inr i)),
 )
 
@@ -119,16 +119,16 @@ one_more pools items v xs name x request sides all sound i no t own =
     let R : PkgRecord → Type 0 = λ m. IsReached items more m in
     record {
       numbered = λ y j. elim (in_either xs (x ∷ []) y j) [
-          | inl h ↦ sound.numbered y h
-          | inr (inl e) ↦ (let S : Numbered → Type 0 = λ u. In u (variables pools) in subst S e t.0)
-          | inr (inr h) ↦ absurd h
-        ];
+        | inl h ↦ sound.numbered y h
+        | inr (inl e) ↦ (let S : Numbered → Type 0 = λ u. In u (variables pools) in subst S e t.0)
+        | inr (inr h) ↦ absurd h
+      ];
       differ = differ_more xs x sound.differ (λ y j e. other_name (plain xs) name y.1 no (in_plain xs y j) (own ∙ sym e));
       reached = subst Q (sym (plain_more xs x)) (λ m j. elim (in_either (plain xs) (x.1 ∷ []) m j) [
-          | inl h ↦ each m h
-          | inr (inl e) ↦ subst R e here
-          | inr (inr h) ↦ absurd h
-        ]);
+        | inl h ↦ each m h
+        | inr (inl e) ↦ subst R e here
+        | inr (inr h) ↦ absurd h
+      ]);
     }
 
 pub all_more : (pools : List NamePool) (v : ℕ → Bool) (xs : List Numbered) (x : Numbered) → AllTrue pools v xs → IsTrueOf pools v x → AllTrue pools v (xs ++ x ∷ [])

@@ -2,9 +2,16 @@
 //! name, name after name; or a refutation that there is none.
 #![tactic(auto)]
 
+mod asking;
+mod deciding;
 mod error;
 mod laws;
+mod names;
+mod order;
+mod places;
+mod ranking;
 mod resolving;
+mod sorting;
 
 pub use error::ResolveErr;
 pub use laws::choice_laws;

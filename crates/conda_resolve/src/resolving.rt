@@ -1,4 +1,4 @@
-ghost use Rattle.std.specs.Prelude.{◌≡◌, ◌×◌, true, All, Contains, IfErr, IfOk, IfSome, List};
+ghost use Rattle.std.specs.Prelude.{◌≡◌, true, All, Contains, IfErr, IfOk, IfSome, List};
 ghost use Rattle.conda_record.specs.declared.pkg_record.PkgRecord.{PkgRecord};
 ghost use Rattle.conda_refute.specs.Refutation.{refuted};
 ghost use Rattle.conda_encode.specs.Clauses.{clauses};
@@ -7,9 +7,14 @@ ghost use Rattle.conda_encode.specs.Variables.{IsRequest};
 ghost use Rattle.conda_resolve.specs.Answer.{log_of};
 ghost use Rattle.conda_resolve.specs.Choice.{IsChoice};
 
+use crate::deciding::decided;
 use crate::error::ResolveErr;
-use conda_encode::Asked;
+use crate::order::order_of;
+use crate::places::{Places, flat};
+use crate::sorting::by_name;
+use conda_encode::{Asked, encode, encode_laws};
 use conda_record::{NamePool, PkgRecord};
+use conda_sat::{Solver, Verdict};
 use std::alloc::Global;
 
 /// The choice, by name. Names are decided one after another: first those of the wanted items, in
@@ -33,5 +38,21 @@ pub fn resolve(
     ensures inputs { IfErr result (λ e. IfSome (log_of e)
         (λ log. All (Contains (clauses pools.now asked.now)) log.inputs)) }
 {
-    Err(ResolveErr::Memory)
+    encode_laws();
+    let encoded = encode(alloc, pools, asked)?;
+    let mut solver = Solver::make(alloc, encoded.vars, encoded.clauses.as_slice())?;
+    let places = Places::new(alloc, pools)?;
+    let recs = flat(alloc, pools)?;
+    let recs = recs.as_slice();
+    let order = order_of(alloc, &places, pools, asked, installed, recs)?;
+    match solver.ask(&[], order.as_slice())? {
+        Verdict::Denied => Err(ResolveErr::Unsat {
+            log: solver.refutation()?,
+        }),
+        Verdict::Model(first) => {
+            let solver = &mut solver;
+            let variables = decided(alloc, &places, pools, asked, installed, recs, solver, first)?;
+            Ok(by_name(alloc, pools, asked, installed, recs, variables)?)
+        }
+    }
 }
