@@ -1,5 +1,5 @@
 -- What is decided in the end: there is one such list at most, it is a solution, and there is one where there is a solution.
-use Rattle.std.proofs.Common.{◌≡◌, ℕ, zero, suc, ◌≤◌, ◌<◌, ◌+◌, ℤ, Bool, true, false, not, cond, List, [], ◌∷◌, ◌++◌, Option, None, Some, filter, find, length, map, refl, sym, ap, ◌∙◌, subst, ◌⊎◌, inl, inr, true≢false, arith}
+use Rattle.std.proofs.Common.{◌≡◌, ◌↔◌, ℕ, zero, suc, ◌≤◌, ◌<◌, ◌+◌, ℤ, Bool, true, false, not, cond, List, [], ◌∷◌, ◌++◌, Option, None, Some, filter, find, length, map, refl, sym, ap, ◌∙◌, subst, ◌⊎◌, inl, inr, true≢false, arith}
 use Rattle.std.proofs.lemmas.Bool.{and_from, and_parts}
 use Rattle.std.specs.List.{Contains, list_all, list_any}
 use Rattle.conda_refute.specs.Literals.{clause_true}
@@ -18,12 +18,12 @@ use Rattle.conda_encode.proofs.Requests.{model_sides, solution_model}
 use Rattle.conda_encode.proofs.Sides.{AreSides, IsTrueOf, Numbered}
 use Rattle.conda_resolve.specs.Choice.{CanStand, IsChoice, IsFirst, IsPicked, LeadsTo, has_name, in_front, installed_one, is_decided, is_fresh, is_installed, next_name, ranked}
 use Rattle.conda_resolve.specs.Choice.LeadsTo.{done, step}
-use Rattle.conda_resolve.proofs.Completing.{can_stand, closed_solves, falls, left, own_pool}
-use Rattle.conda_resolve.proofs.Names.{by_option, find_some, has_is, is_has, name_of, next_is, none_next, other_name, pending, wanted_comes}
+use Rattle.conda_resolve.proofs.Completing.{can_stand, closed_solves, falls, left}
+use Rattle.conda_resolve.proofs.Naming.{by_option, find_some, has_is, is_has, name_of, next_is, none_next, other_name, pending, plain, wanted_comes}
 use Rattle.conda_resolve.proofs.Satisfying.{Decided, satisfied_or_not}
-use Rattle.conda_resolve.proofs.Sorting.{by_name, one_way, solves_so}
+use Rattle.conda_resolve.proofs.Sorted.{by_name, one_way, solves_so}
 use Rattle.conda_resolve.proofs.Swapping.{stands_in_model}
-use Rattle.conda_resolve.proofs.Walk.{AllTrue, Answers, Differ, IsSound, all_fewer, answers, all_more, differ_more, in_plain, nothing_sound, of_plain, one_more, plain, plain_more}
+use Rattle.conda_resolve.proofs.Walk.{AllTrue, Answers, Differ, IsSound, all_fewer, answers, all_more, differ_more, in_plain, nothing_sound, of_plain, one_more, plain_more}
 
 -- ---- the records of a name
 
@@ -77,9 +77,9 @@ first_exists P [] x answer i h = absurd i
 first_exists {A} P (y ∷ ys) x answer i h =
     elim (answer y (inl refl)) [
       | inl p ↦ (y, inl (refl, p))
-      | inr no ↦ elim i as (λ _. (z : A) × IsFirst P (y ∷ ys) z) [
-        | inl e ↦ absurd (no (subst P (sym e) h))
-        | inr j ↦ let f : (z : A) × IsFirst P ys z = first_exists P ys x (λ z k. answer z (inr k)) j h in (f.0, inr (no, f.1))
+      | inr free ↦ elim i as (λ _. (z : A) × IsFirst P (y ∷ ys) z) [
+        | inl e ↦ absurd (free (subst P (sym e) h))
+        | inr j ↦ let f : (z : A) × IsFirst P ys z = first_exists P ys x (λ z k. answer z (inr k)) j h in (f.0, inr (free, f.1))
       ]
     ]
 

@@ -15,8 +15,8 @@ use Rattle.conda_encode.proofs.Members.{In, from_contains, in_left, number_once,
 use Rattle.conda_encode.proofs.Places.{named_own}
 use Rattle.conda_encode.proofs.Sides.{AreSides, IsMetBy, IsTrueOf, Numbered, bound_from}
 use Rattle.conda_resolve.specs.Choice.{CanStand, has_name, is_decided, next_name}
-use Rattle.conda_resolve.proofs.Names.{by_option, decided_by, decided_from, name_of, needed_comes, next_is, none_next, pending, wanted_comes}
-use Rattle.conda_resolve.proofs.Walk.{AllTrue, Differ, IsSound, all_more, answers, in_plain, of_plain, one_more, plain, plain_more, record_in}
+use Rattle.conda_resolve.proofs.Naming.{by_option, decided_by, decided_from, name_of, needed_comes, next_is, none_next, pending, plain, wanted_comes}
+use Rattle.conda_resolve.proofs.Walk.{AllTrue, Differ, IsSound, all_more, answers, in_plain, of_plain, one_more, plain_more, record_in}
 
 -- ---- where no name comes up any more
 
@@ -124,16 +124,16 @@ left_less decided x (r ∷ rs) =
 pub left_falls : (decided : List PkgRecord) (x r : PkgRecord) (rs : List PkgRecord) → In r rs → is_decided decided (name_of r) ≡ false → is_decided (decided ++ x ∷ []) (name_of r) ≡ true →
     left (decided ++ x ∷ []) rs < left decided rs
 unfolding left one_left
-left_falls decided x r [] i no yes = absurd i
-left_falls decided x r (s ∷ rs) (inl e) no yes =
-    let a : one_left (is_decided decided (name_of s)) ≡ 1 = ap (λ (u : PkgRecord). one_left (is_decided decided (name_of u))) e ∙ ap one_left no in
-    let b : one_left (is_decided (decided ++ x ∷ []) (name_of s)) ≡ 0 = ap (λ (u : PkgRecord). one_left (is_decided (decided ++ x ∷ []) (name_of u))) e ∙ ap one_left yes in
+left_falls decided x r [] i free taken = absurd i
+left_falls decided x r (s ∷ rs) (inl e) free taken =
+    let a : one_left (is_decided decided (name_of s)) ≡ 1 = ap (λ (u : PkgRecord). one_left (is_decided decided (name_of u))) e ∙ ap one_left free in
+    let b : one_left (is_decided (decided ++ x ∷ []) (name_of s)) ≡ 0 = ap (λ (u : PkgRecord). one_left (is_decided (decided ++ x ∷ []) (name_of u))) e ∙ ap one_left taken in
     let rest = left_less decided x rs in
     omega (arith, a, b, rest)
-left_falls decided x r (s ∷ rs) (inr i) no yes =
+left_falls decided x r (s ∷ rs) (inr i) free taken =
     let here : one_left (is_decided (decided ++ x ∷ []) (name_of s)) ≤ one_left (is_decided decided (name_of s))
     = one_less (is_decided decided (name_of s)) (is_decided (decided ++ x ∷ []) (name_of s)) (more_decided decided x (name_of s)) in
-    let rest = left_falls decided x r rs i no yes in
+    let rest = left_falls decided x r rs i free taken in
     omega (arith, here, rest)
 
 pub last_in : (ms : List PkgRecord) (m : PkgRecord) → In m (ms ++ m ∷ [])
@@ -143,11 +143,11 @@ last_in (k ∷ ks) m = inr (last_in ks m)
 -- the record of a new variable is one that was left
 pub falls : (pools : List NamePool) (xs : List Numbered) (name : List ℕ) (x : Numbered) → In x (variables pools) → is_decided (plain xs) name ≡ false → name ≡ name_of x.1 →
     left (plain (xs ++ x ∷ [])) (records pools) < left (plain xs) (records pools)
-falls pools xs name x i no own =
+falls pools xs name x i free own =
     let P : List ℕ → Type 0 = λ n. is_decided (plain xs) n ≡ false in
     let Q : List PkgRecord → Type 0 = λ ds. left ds (records pools) < left (plain xs) (records pools) in
     subst Q (sym (plain_more xs x))
-    (left_falls (plain xs) x.1 x.1 (records pools) (numbered_in 1 (records pools) x i) (subst P own no)
+    (left_falls (plain xs) x.1 x.1 (records pools) (numbered_in 1 (records pools) x i) (subst P own free)
     (decided_from (plain xs ++ x.1 ∷ []) (name_of x.1) x.1 (last_in (plain xs) x.1) refl))
 
 -- ---- until none comes up

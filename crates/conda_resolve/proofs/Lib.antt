@@ -1,7 +1,11 @@
-pub mod Names
+pub mod Naming
+pub mod Ranks
 pub mod Walk
 pub mod Completing
 pub mod Swapping
 pub mod Satisfying
-pub mod Sorting
+pub mod Sorted
 pub mod Choosing
+pub mod Asks
+pub mod Steps
+pub mod Gathered

@@ -43,7 +43,7 @@ suits_too literals v every (negsuc n) i =
 at_last : (literals : List ℤ) → ((v : ℕ → Bool) × Suits literals [] v) ⊎ ((v : ℕ → Bool) → Suits literals [] v → ⊥)
 at_last literals =
     elim (by_side (list_all (literal_true (sides_for literals)) literals)) [
-      | inl e ↦ inl (sides_for literals, e, refl)
+      | inl e ↦ inl (sides_for literals, (e, refl))
       | inr e ↦ inr (λ v s. true≢false (sym (all_from (literal_true (sides_for literals)) literals (suits_too literals v s.0)) ∙ e))
     ]
 
@@ -76,7 +76,7 @@ each_tried : (cs : List (List ℤ)) (literals : List ℤ) → ((v : ℕ → Bool
 each_tried [] literals = at_last literals
 each_tried (c ∷ cs) literals =
     elim (tried c literals cs (each_tried cs)) [
-      | inl s ↦ inl (s.0, s.1.0, and_from (clause_true s.0 c) (list_all (clause_true s.0) cs) s.2 s.1.1)
+      | inl s ↦ inl (s.0, (s.1.0, and_from (clause_true s.0 c) (list_all (clause_true s.0) cs) s.2 s.1.1))
       | inr none ↦ inr (λ v s.
           let parts = and_parts (clause_true v c) (list_all (clause_true v) cs) s.1 in
           none v (s.0, parts.1) parts.0)

@@ -11,8 +11,8 @@ use Rattle.conda_encode.proofs.Literals.{by_side}
 use Rattle.conda_encode.proofs.Members.{In, from_contains, in_either, number_high, number_once, to_contains}
 use Rattle.conda_encode.proofs.Requests.{same_model, solution_model}
 use Rattle.conda_encode.proofs.Sides.{IsTrueOf, Numbered}
-use Rattle.conda_resolve.proofs.Names.{name_of}
-use Rattle.conda_resolve.proofs.Walk.{AllTrue, Differ, plain, in_plain}
+use Rattle.conda_resolve.proofs.Naming.{name_of, plain}
+use Rattle.conda_resolve.proofs.Walk.{AllTrue, Differ, in_plain}
 
 -- sides with one variable true in place of another
 swapped : (ℕ → Bool) → ℕ → ℕ → ℕ → Bool

@@ -14,11 +14,7 @@ use Rattle.conda_encode.proofs.Members.{In, from_contains, in_either, in_left, i
 use Rattle.conda_encode.proofs.Places.{named_own}
 use Rattle.conda_encode.proofs.Sides.{AreSides, IsTrueOf, Numbered}
 use Rattle.conda_resolve.specs.Choice.{is_decided}
-use Rattle.conda_resolve.proofs.Names.{IsCalled, called_by, name_of, other_name, pending}
-
--- the records without their variables
-abbrev pub plain : List Numbered → List PkgRecord
-plain xs = map (λ x. x.1) xs
+use Rattle.conda_resolve.proofs.Naming.{IsCalled, called_by, name_of, other_name, pending, plain}
 
 -- all of these are true
 abbrev pub AllTrue : List NamePool → (ℕ → Bool) → List Numbered → Type 0
@@ -106,7 +102,7 @@ differ_more (y ∷ ys) x d other = (
 pub one_more : (pools : List NamePool) (items : List Asked) (v : ℕ → Bool) (xs : List Numbered) (name : List ℕ) (x : Numbered) → IsRequest pools items → AreSides pools items v →
     AllTrue pools v xs → IsSound pools items xs → In name (pending items (plain xs)) → is_decided (plain xs) name ≡ false → IsTrueOf pools v x → name ≡ name_of x.1 →
     IsSound pools items (xs ++ x ∷ [])
-one_more pools items v xs name x request sides all sound i no t own =
+one_more pools items v xs name x request sides all sound i free t own =
     let a = answers pools items v xs name request sides all i in
     let n : a.found.0 ≡ x.0 = sides.once a.found x a.is_true t (sym a.named ∙ own) in
     let same : a.found.1 ≡ x.1 = number_once 1 (records pools) a.found x a.is_true.0 t.0 n in
@@ -123,7 +119,7 @@ one_more pools items v xs name x request sides all sound i no t own =
         | inr (inl e) ↦ (let S : Numbered → Type 0 = λ u. In u (variables pools) in subst S e t.0)
         | inr (inr h) ↦ absurd h
       ];
-      differ = differ_more xs x sound.differ (λ y j e. other_name (plain xs) name y.1 no (in_plain xs y j) (own ∙ sym e));
+      differ = differ_more xs x sound.differ (λ y j e. other_name (plain xs) name y.1 free (in_plain xs y j) (own ∙ sym e));
       reached = subst Q (sym (plain_more xs x)) (λ m j. elim (in_either (plain xs) (x.1 ∷ []) m j) [
         | inl h ↦ each m h
         | inr (inl e) ↦ subst R e here

@@ -12,7 +12,7 @@ use crate::error::ResolveErr;
 use crate::order::order_of;
 use crate::places::{Places, flat};
 use crate::sorting::by_name;
-use conda_encode::{Asked, encode, encode_laws};
+use conda_encode::{Asked, encode};
 use conda_record::{NamePool, PkgRecord};
 use conda_sat::{Solver, Verdict};
 use std::alloc::Global;
@@ -38,7 +38,6 @@ pub fn resolve(
     ensures inputs { IfErr result (λ e. IfSome (log_of e)
         (λ log. All (Contains (clauses pools.now asked.now)) log.inputs)) }
 {
-    encode_laws();
     let encoded = encode(alloc, pools, asked)?;
     let mut solver = Solver::make(alloc, encoded.vars, encoded.clauses.as_slice())?;
     let places = Places::new(alloc, pools)?;

@@ -19,7 +19,7 @@ use Rattle.conda_encode.proofs.Cuts.{AllFrom}
 use Rattle.conda_encode.proofs.Members.{In, from_contains, to_contains}
 use Rattle.conda_encode.proofs.Ones.{first_pair, rest_pairs}
 use Rattle.conda_spec.specs.Parts.{Parts}
-use Rattle.conda_resolve.proofs.Names.{name_of}
+use Rattle.conda_resolve.proofs.Naming.{name_of}
 use Rattle.conda_resolve.proofs.Walk.{reached_more}
 
 abbrev pub names_of : List PkgRecord → List (List ℕ)

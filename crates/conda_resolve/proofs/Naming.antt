@@ -16,7 +16,15 @@ use Rattle.conda_encode.specs.declared.asked.AskKind.{AskKind}
 use Rattle.conda_encode.specs.declared.asked.AskKind.TheVariants.{Pinned, Wanted}
 use Rattle.conda_encode.proofs.Literals.{by_side}
 use Rattle.conda_encode.proofs.Members.{In, any_at, any_from, from_contains, in_either, in_filter, in_flat_map, in_left, in_map, in_right, of_filter, of_flat_map, of_map, to_contains}
+use Rattle.conda_encode.proofs.Sides.{Numbered}
 use Rattle.conda_resolve.specs.Choice.{has_name, is_decided, is_wanted, names_needed, names_wanted, needs_of, next_name}
+
+-- numbered records: their variables, and the records without these
+abbrev pub numbers : List Numbered → List ℕ
+numbers xs = map (λ x. x.0) xs
+
+abbrev pub plain : List Numbered → List PkgRecord
+plain xs = map (λ x. x.1) xs
 
 -- the name of a record, its letters lowered
 abbrev pub name_of : PkgRecord → List ℕ
@@ -43,7 +51,7 @@ decided_from decided name m i e = any_from (has_name name) decided m i (is_has n
 
 -- a record of a name that isn't decided has another name than all that are
 pub other_name : (decided : List PkgRecord) (name : List ℕ) (m : PkgRecord) → is_decided decided name ≡ false → In m decided → name ≡ name_of m → ⊥
-other_name decided name m no i e = true≢false (sym (decided_from decided name m i e) ∙ no)
+other_name decided name m free i e = true≢false (sym (decided_from decided name m i e) ∙ free)
 
 -- ---- the names that come up
 
@@ -131,10 +139,10 @@ find_nowhere p (y ∷ ys) none =
 
 not_false : (b : Bool) → not b ≡ false → b ≡ true
 not_false true h = refl
-not_false false h = h ∙ sym h
+not_false false h = sym h
 
 not_true : (b : Bool) → not b ≡ true → b ≡ false
-not_true true h = sym h ∙ h
+not_true true h = sym h
 not_true false h = refl
 
 -- ---- the next name
@@ -150,9 +158,9 @@ none_next items decided h name i =
 
 pub next_here : (items : List Asked) (decided : List PkgRecord) (before behind : List (List ℕ)) (name : List ℕ) → pending items decided ≡ before ++ name ∷ behind →
     ((other : List ℕ) → In other before → is_decided decided other ≡ true) → is_decided decided name ≡ false → next_name items decided ≡ Some name
-next_here items decided before behind name e all no =
+next_here items decided before behind name e all free =
     ap (find (λ name. not (is_decided decided name))) e
-    ∙ find_here (λ name. not (is_decided decided name)) before name behind (λ other i. ap not (all other i)) (ap not no)
+    ∙ find_here (λ name. not (is_decided decided name)) before name behind (λ other i. ap not (all other i)) (ap not free)
 
 pub next_nowhere : (items : List Asked) (decided : List PkgRecord) → ((other : List ℕ) → In other (pending items decided) → is_decided decided other ≡ true) → next_name items decided ≡ None
 next_nowhere items decided all =

@@ -1,0 +1,70 @@
+-- One question after another, up to the first that has a model.
+use Rattle.std.proofs.Common.{◌≡◌, ℕ, zero, suc, ◌+◌, ◌<◌, ◌≤◌, ℤ, Bool, true, false, List, [], ◌∷◌, ◌++◌, length, take, get_or, refl, sym, ap, ◌∙◌, subst, ◌⊎◌, inl, inr, true≢false, arith}
+use Rattle.std.proofs.lemmas.Bool.{and_from, and_parts}
+use Rattle.std.proofs.lemmas.List.{take_all, take_more}
+use Rattle.std.specs.List.{Contains, list_all}
+use Rattle.conda_refute.specs.Literals.{clause_true, literal_true}
+use Rattle.conda_encode.specs.Clauses.{on}
+use Rattle.conda_encode.specs.Sides.{is_within, side_of}
+use Rattle.conda_encode.proofs.Literals.{on_from}
+use Rattle.conda_encode.proofs.Members.{In, from_contains, in_either, to_contains}
+use Rattle.conda_resolve.specs.Asking.{AreWithin, IsFound, IsModelWith, IsOpen, NoneOpen}
+use Rattle.conda_resolve.specs.Choice.{IsFirst}
+
+first_at : {A : Type 0} (P : A → Type 0) (xs : List A) (i : ℕ) (x : A) → i < length xs → get_or xs i x ≡ x → ((y : A) → In y (take i xs) → P y → ⊥) → P x → IsFirst P xs x
+first_at P [] i x lt e none p = absurd (omega arith)
+first_at P (y ∷ ys) zero x lt e none p = inl (e, p)
+first_at P (y ∷ ys) (suc i) x lt e none p = inr (none y (inl refl), first_at P ys i x (omega arith) e (λ z j. none z (inr j)) p)
+
+pub found_at : (vars : ℕ) (cs : List (List ℤ)) (before after : List ℤ) (sides : List Bool) (candidates : List ℕ) (i n : ℕ) → i < length candidates → get_or candidates i n ≡ n →
+    NoneOpen cs before (take i candidates) → IsOpen cs before n → after ≡ before ++ on n ∷ [] → AreWithin vars after → IsModelWith vars cs after sides →
+    IsFound vars cs before after sides candidates n
+found_at vars cs before after sides candidates i n lt e none open more within model = record {
+  first = first_at (IsOpen cs before) candidates i n lt e (λ m j. none m (to_contains (take i candidates) m j)) open;
+  more = more;
+  within = within;
+  model = model;
+}
+
+pub none_yet : (cs : List (List ℤ)) (assumed : List ℤ) (candidates : List ℕ) → NoneOpen cs assumed (take 0 candidates)
+none_yet cs assumed candidates n c open = absurd (from_contains [] n c)
+
+pub none_more : (cs : List (List ℤ)) (assumed : List ℤ) (candidates : List ℕ) (i n : ℕ) → i < length candidates → get_or candidates i n ≡ n → NoneOpen cs assumed (take i candidates) →
+    (IsOpen cs assumed n → ⊥) → NoneOpen cs assumed (take (i + 1) candidates)
+none_more cs assumed candidates i n lt e none here m c open =
+    let P : List ℕ → Type 0 = λ ns. In m ns in
+    let Q : ℕ → Type 0 = λ k. IsOpen cs assumed k in
+    elim (in_either (take i candidates) (get_or candidates i n ∷ []) m (subst P (take_more candidates i n lt) (from_contains (take (i + 1) candidates) m c))) [
+      | inl j ↦ none m (to_contains (take i candidates) m j) open
+      | inr (inl f) ↦ here (subst Q (sym f ∙ e) open)
+      | inr (inr j) ↦ absurd j
+    ]
+
+pub none_all : (cs : List (List ℤ)) (assumed : List ℤ) (candidates : List ℕ) (i : ℕ) → length candidates ≤ i → NoneOpen cs assumed (take i candidates) → NoneOpen cs assumed candidates
+none_all cs assumed candidates i le none =
+    let P : List ℕ → Type 0 = λ ns. NoneOpen cs assumed ns in
+    subst P (take_all i candidates le) none
+
+-- ---- one literal more
+
+pub all_last : {A : Type 0} (p : A → Bool) (xs : List A) (x : A) → list_all p xs ≡ true → p x ≡ true → list_all p (xs ++ x ∷ []) ≡ true
+all_last p [] x every here = and_from (p x) true here refl
+all_last p (y ∷ ys) x every here =
+    let parts = and_parts (p y) (list_all p ys) every in
+    and_from (p y) (list_all p (ys ++ x ∷ [])) parts.0 (all_last p ys x parts.1 here)
+
+pub model_more : (vars : ℕ) (cs : List (List ℤ)) (assumed after : List ℤ) (sides : List Bool) (n : ℕ) → 1 ≤ n → IsModelWith vars cs assumed sides → after ≡ assumed ++ on n ∷ [] →
+    side_of sides n ≡ true → IsModelWith vars cs after sides
+model_more vars cs assumed after sides n low model e h = record {
+  count = model.count;
+  clauses_true = model.clauses_true;
+  assumed_true = ap (list_all (literal_true (side_of sides))) e
+      ∙ all_last (literal_true (side_of sides)) assumed (on n) model.assumed_true (on_from (side_of sides) n low h);
+}
+
+pub model_open : (vars : ℕ) (cs : List (List ℤ)) (assumed after : List ℤ) (sides : List Bool) (n : ℕ) → IsModelWith vars cs after sides → after ≡ assumed ++ on n ∷ [] → IsOpen cs assumed n
+model_open vars cs assumed after sides n model e = (side_of sides, model.clauses_true, sym (ap (list_all (literal_true (side_of sides))) e) ∙ model.assumed_true)
+
+pub denied_open : (cs : List (List ℤ)) (assumed after : List ℤ) (n : ℕ) → after ≡ assumed ++ on n ∷ [] →
+    ((v : ℕ → Bool) → list_all (clause_true v) cs ≡ true → list_all (literal_true v) after ≡ true → ⊥) → IsOpen cs assumed n → ⊥
+denied_open cs assumed after n e denied (v, model, h) = denied v model (ap (list_all (literal_true v)) e ∙ h)
