@@ -1,9 +1,11 @@
-//! The rows of the solver and its checker, of the index and of requests as clauses.
+//! The rows of the solver and its checker, of the index, of requests as clauses and of choices.
 #![tactic(auto)]
 
+mod choice;
 mod clauses;
 mod index;
 mod packages;
+mod plain;
 mod refute;
 mod sat;
 mod solution;
@@ -25,6 +27,9 @@ fn answer<R: Threads + Sync>(
     }
     if call.starts_with("encode.") {
         return clauses::answer(rt, alloc, call, arguments);
+    }
+    if call.starts_with("resolve.") {
+        return choice::answer(rt, alloc, call, arguments);
     }
     if let Some(answer) = refute::answer(alloc, call, arguments)? {
         return Ok(Some(answer));
