@@ -68,3 +68,39 @@ model_open vars cs assumed after sides n model e = (side_of sides, model.clauses
 pub denied_open : (cs : List (List ℤ)) (assumed after : List ℤ) (n : ℕ) → after ≡ assumed ++ on n ∷ [] →
     ((v : ℕ → Bool) → list_all (clause_true v) cs ≡ true → list_all (literal_true v) after ≡ true → ⊥) → IsOpen cs assumed n → ⊥
 denied_open cs assumed after n e denied (v, model, h) = denied v model (ap (list_all (literal_true v)) e ∙ h)
+
+-- ---- the same where a loop has kept what was there
+
+pub get_any : (xs : List ℕ) (i d e : ℕ) → i < length xs → get_or xs i d ≡ get_or xs i e
+get_any [] i d e lt = absurd (omega arith)
+get_any (x ∷ xs) zero d e lt = refl
+get_any (x ∷ xs) (suc i) d e lt = get_any xs i d e (omega arith)
+
+pub at_contains : (xs : List ℕ) (i : ℕ) → i < length xs → Contains xs (get_or xs i 0)
+at_contains xs i lt = (i, lt, get_any xs i (get_or xs i 0) 0 lt)
+
+pub open_so : (cs' cs : List (List ℤ)) (before' before : List ℤ) (n : ℕ) → cs' ≡ cs → before' ≡ before → IsOpen cs' before' n → IsOpen cs before n
+open_so cs' cs before' before n e f open =
+    let P : List (List ℤ) → Type 0 = λ c. IsOpen c before n in
+    let Q : List ℤ → Type 0 = λ b. IsOpen cs' b n in
+    subst P e (subst Q f open)
+
+model_so : (vars' vars : ℕ) (cs' cs : List (List ℤ)) (after : List ℤ) (sides : List Bool) → vars' ≡ vars → cs' ≡ cs → IsModelWith vars' cs' after sides → IsModelWith vars cs after sides
+model_so vars' vars cs' cs after sides e f model =
+    let P : List (List ℤ) → Type 0 = λ c. list_all (clause_true (side_of sides)) c ≡ true in
+    record { count = model.count ∙ e; clauses_true = subst P f model.clauses_true; assumed_true = model.assumed_true }
+
+pub found_so : (vars' vars : ℕ) (cs' cs : List (List ℤ)) (before' before after : List ℤ) (sides : List Bool) (candidates : List ℕ) (i : ℕ) → vars' ≡ vars → cs' ≡ cs → before' ≡ before →
+    i < length candidates → NoneOpen cs before (take i candidates) → IsOpen cs' before' (get_or candidates i 0) → after ≡ before' ++ on (get_or candidates i 0) ∷ [] → AreWithin vars' after →
+    IsModelWith vars' cs' after sides → IsFound vars cs before after sides candidates (get_or candidates i 0)
+found_so vars' vars cs' cs before' before after sides candidates i e f g lt none open more within model =
+    let n = get_or candidates i 0 in
+    let P : ℕ → Type 0 = λ v. AreWithin v after in
+    found_at vars cs before after sides candidates i n lt (get_any candidates i n 0 lt) none (open_so cs' cs before' before n f g open)
+    (more ∙ ap (λ ls. ls ++ on n ∷ []) g) (subst P e within) (model_so vars' vars cs' cs after sides e f model)
+
+pub none_so : (cs' cs : List (List ℤ)) (before' before : List ℤ) (candidates : List ℕ) (i : ℕ) → cs' ≡ cs → before' ≡ before → i < length candidates → NoneOpen cs before (take i candidates) →
+    (IsOpen cs' before' (get_or candidates i 0) → ⊥) → NoneOpen cs before (take (i + 1) candidates)
+none_so cs' cs before' before candidates i e f lt none here =
+    let n = get_or candidates i 0 in
+    none_more cs before candidates i n lt (get_any candidates i n 0 lt) none (λ open. here (open_so cs cs' before before' n (sym e) (sym f) open))

@@ -9,3 +9,4 @@ pub mod Choosing
 pub mod Asks
 pub mod Steps
 pub mod Gathered
+pub mod Answering
