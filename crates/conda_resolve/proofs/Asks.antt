@@ -19,24 +19,24 @@ first_at P (y ∷ ys) (suc i) x lt e none p = inr (none y (inl refl), first_at P
 pub found_at : (vars : ℕ) (cs : List (List ℤ)) (before after : List ℤ) (sides : List Bool) (candidates : List ℕ) (i n : ℕ) → i < length candidates → get_or candidates i n ≡ n →
     NoneOpen cs before (take i candidates) → IsOpen cs before n → after ≡ before ++ on n ∷ [] → AreWithin vars after → IsModelWith vars cs after sides →
     IsFound vars cs before after sides candidates n
-found_at vars cs before after sides candidates i n lt e none open more within model = record {
-  first = first_at (IsOpen cs before) candidates i n lt e (λ m j. none m (to_contains (take i candidates) m j)) open;
+found_at vars cs before after sides candidates i n lt e none may more within model = record {
+  first = first_at (IsOpen cs before) candidates i n lt e (λ m j. none m (to_contains (take i candidates) m j)) may;
   more = more;
   within = within;
   model = model;
 }
 
 pub none_yet : (cs : List (List ℤ)) (assumed : List ℤ) (candidates : List ℕ) → NoneOpen cs assumed (take 0 candidates)
-none_yet cs assumed candidates n c open = absurd (from_contains [] n c)
+none_yet cs assumed candidates n c may = absurd (from_contains [] n c)
 
 pub none_more : (cs : List (List ℤ)) (assumed : List ℤ) (candidates : List ℕ) (i n : ℕ) → i < length candidates → get_or candidates i n ≡ n → NoneOpen cs assumed (take i candidates) →
     (IsOpen cs assumed n → ⊥) → NoneOpen cs assumed (take (i + 1) candidates)
-none_more cs assumed candidates i n lt e none here m c open =
+none_more cs assumed candidates i n lt e none here m c may =
     let P : List ℕ → Type 0 = λ ns. In m ns in
     let Q : ℕ → Type 0 = λ k. IsOpen cs assumed k in
     elim (in_either (take i candidates) (get_or candidates i n ∷ []) m (subst P (take_more candidates i n lt) (from_contains (take (i + 1) candidates) m c))) [
-      | inl j ↦ none m (to_contains (take i candidates) m j) open
-      | inr (inl f) ↦ here (subst Q (sym f ∙ e) open)
+      | inl j ↦ none m (to_contains (take i candidates) m j) may
+      | inr (inl f) ↦ here (subst Q (sym f ∙ e) may)
       | inr (inr j) ↦ absurd j
     ]
 
@@ -80,10 +80,10 @@ pub at_contains : (xs : List ℕ) (i : ℕ) → i < length xs → Contains xs (g
 at_contains xs i lt = (i, lt, get_any xs i (get_or xs i 0) 0 lt)
 
 pub open_so : (cs' cs : List (List ℤ)) (before' before : List ℤ) (n : ℕ) → cs' ≡ cs → before' ≡ before → IsOpen cs' before' n → IsOpen cs before n
-open_so cs' cs before' before n e f open =
+open_so cs' cs before' before n e f may =
     let P : List (List ℤ) → Type 0 = λ c. IsOpen c before n in
     let Q : List ℤ → Type 0 = λ b. IsOpen cs' b n in
-    subst P e (subst Q f open)
+    subst P e (subst Q f may)
 
 model_so : (vars' vars : ℕ) (cs' cs : List (List ℤ)) (after : List ℤ) (sides : List Bool) → vars' ≡ vars → cs' ≡ cs → IsModelWith vars' cs' after sides → IsModelWith vars cs after sides
 model_so vars' vars cs' cs after sides e f model =
@@ -93,14 +93,14 @@ model_so vars' vars cs' cs after sides e f model =
 pub found_so : (vars' vars : ℕ) (cs' cs : List (List ℤ)) (before' before after : List ℤ) (sides : List Bool) (candidates : List ℕ) (i : ℕ) → vars' ≡ vars → cs' ≡ cs → before' ≡ before →
     i < length candidates → NoneOpen cs before (take i candidates) → IsOpen cs' before' (get_or candidates i 0) → after ≡ before' ++ on (get_or candidates i 0) ∷ [] → AreWithin vars' after →
     IsModelWith vars' cs' after sides → IsFound vars cs before after sides candidates (get_or candidates i 0)
-found_so vars' vars cs' cs before' before after sides candidates i e f g lt none open more within model =
+found_so vars' vars cs' cs before' before after sides candidates i e f g lt none may more within model =
     let n = get_or candidates i 0 in
     let P : ℕ → Type 0 = λ v. AreWithin v after in
-    found_at vars cs before after sides candidates i n lt (get_any candidates i n 0 lt) none (open_so cs' cs before' before n f g open)
+    found_at vars cs before after sides candidates i n lt (get_any candidates i n 0 lt) none (open_so cs' cs before' before n f g may)
     (more ∙ ap (λ ls. ls ++ on n ∷ []) g) (subst P e within) (model_so vars' vars cs' cs after sides e f model)
 
 pub none_so : (cs' cs : List (List ℤ)) (before' before : List ℤ) (candidates : List ℕ) (i : ℕ) → cs' ≡ cs → before' ≡ before → i < length candidates → NoneOpen cs before (take i candidates) →
     (IsOpen cs' before' (get_or candidates i 0) → ⊥) → NoneOpen cs before (take (i + 1) candidates)
 none_so cs' cs before' before candidates i e f lt none here =
     let n = get_or candidates i 0 in
-    none_more cs before candidates i n lt (get_any candidates i n 0 lt) none (λ open. here (open_so cs cs' before before' n (sym e) (sym f) open))
+    none_more cs before candidates i n lt (get_any candidates i n 0 lt) none (λ may. here (open_so cs cs' before before' n (sym e) (sym f) may))

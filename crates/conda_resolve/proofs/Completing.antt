@@ -100,7 +100,7 @@ pub left : List PkgRecord → List PkgRecord → ℕ
 left decided [] = 0
 left decided (r ∷ rs) = one_left (is_decided decided (name_of r)) + left decided rs
 
-more_decided : (decided : List PkgRecord) (x : PkgRecord) (name : List ℕ) → is_decided decided name ≡ true → is_decided (decided ++ x ∷ []) name ≡ true
+pub more_decided : (decided : List PkgRecord) (x : PkgRecord) (name : List ℕ) → is_decided decided name ≡ true → is_decided (decided ++ x ∷ []) name ≡ true
 more_decided decided x name h =
     let m = decided_by decided name h in
     decided_from (decided ++ x ∷ []) name m.0 (in_left decided (x ∷ []) m.0 m.1) m.2

@@ -1,16 +1,16 @@
 -- The order in which the records of a name are tried, by their variables.
 use Rattle.std.proofs.Common.{◌≡◌, ◌≢◌, ℕ, zero, suc, ◌+◌, ◌<◌, ◌≤◌, Bool, true, false, cond, List, [], ◌∷◌, ◌++◌, Option, None, Some, filter, find, length, map, position, take, get_or, nat_lt, refl, sym, ap, ◌∙◌, subst, ◌⊎◌, inl, inr, true≢false, arith}
 use Rattle.std.proofs.lemmas.Bool.{lt-ltb}
-use Rattle.std.proofs.lemmas.List.{append-nil, length-append}
+use Rattle.std.proofs.lemmas.List.{append-nil, append_assoc, length-append}
 use Rattle.std.proofs.lemmas.List.Elements.{filter-append}
 use Rattle.std.proofs.lemmas.List.Quantifiers.{position-Some}
 use Rattle.std.proofs.lemmas.List.Sums.{fails_before_first}
-use Rattle.std.specs.List.{AllPairs, Contains, position_or_len}
-use Rattle.std.specs.Option.{option_map}
+use Rattle.std.specs.List.{All, AllPairs, Contains, position_or_len}
+use Rattle.std.specs.Option.{option_map, option_map_or}
 use Rattle.conda_record.specs.declared.pkg_record.PkgRecord.{PkgRecord}
 use Rattle.conda_record.specs.declared.pool.NamePool.{NamePool}
 use Rattle.conda_encode.specs.Matching.{lowered}
-use Rattle.conda_encode.specs.Variables.{numbered, records, variables}
+use Rattle.conda_encode.specs.Variables.{IsRequest, numbered, records, variables}
 use Rattle.conda_encode.specs.declared.asked.Asked.{Asked}
 use Rattle.conda_encode.proofs.Literals.{by_side}
 use Rattle.conda_encode.proofs.Members.{In, in_filter, numbered_in, of_filter, of_flat_map, to_contains}
@@ -18,7 +18,7 @@ use Rattle.conda_encode.proofs.Ones.{Own, first_pair, numbered-append, rest_own,
 use Rattle.conda_encode.proofs.Sides.{Numbered}
 use Rattle.conda_resolve.specs.Asking.{in_front_of, installed_variable, ranked_variables}
 use Rattle.conda_resolve.specs.Choice.{has_name, in_front, installed_one, is_fresh, is_installed, ranked}
-use Rattle.conda_resolve.proofs.Naming.{find_nowhere, find_some, has_is, is_has, name_of, plain}
+use Rattle.conda_resolve.proofs.Naming.{find_nowhere, find_some, has_is, is_has, name_of, numbers, plain}
 
 -- ---- the records of the ranked variables are the ranked records
 
@@ -180,3 +180,64 @@ to_rank pools items installed name x i own =
     let xs : List Numbered = of_name name 1 (records pools) in
     behind_front (installed_variable items installed name xs) xs x
     (in_filter (λ (y : Numbered). has_name name y.1) (variables pools) x i (is_has name x.1 own))
+
+-- ---- the variables that the code lists
+
+pub numbers_more : (n : ℕ) (recs : List PkgRecord) (i : ℕ) → i < length recs → numbers (numbered n (take (i + 1) recs)) ≡ numbers (numbered n (take i recs)) ++ (n + i) ∷ []
+numbers_more n [] i lt = absurd (omega arith)
+numbers_more n (r ∷ rs) zero lt = let e : n ≡ n + 0 = omega arith in ap (λ k. k ∷ []) e
+numbers_more n (r ∷ rs) (suc i) lt =
+    let e : suc i + 1 ≡ suc (i + 1) = omega arith in
+    let f : n + 1 + i ≡ n + suc i = omega arith in
+    ap (λ k. numbers (numbered n (take k (r ∷ rs)))) e ∙ ap (λ ns. n ∷ ns) (numbers_more (n + 1) rs i (omega arith) ∙ ap (λ k. numbers (numbered (n + 1) (take i rs)) ++ k ∷ []) f)
+
+pub pushed_number : (n : ℕ) (recs : List PkgRecord) (i : ℕ) (old now next : List ℕ) → i < length recs → now ≡ old ++ numbers (numbered n (take i recs)) → next ≡ now ++ (n + i) ∷ [] →
+    next ≡ old ++ numbers (numbered n (take (i + 1) recs))
+pushed_number n recs i old now next lt e f =
+    f ∙ ap (λ ns. ns ++ (n + i) ∷ []) e ∙ append_assoc old (numbers (numbered n (take i recs))) ((n + i) ∷ []) ∙ ap (λ ns. old ++ ns) (sym (numbers_more n recs i lt))
+
+own_of : (pools : List NamePool) (items : List Asked) → IsRequest pools items → Own pools
+own_of pools items request = record {
+  own = λ pool i pkg j. request.own pool (to_contains pools pool i) pkg (to_contains pool.recs pkg j);
+  apart = request.apart;
+}
+
+nothing_first : (items : List Asked) (installed : List PkgRecord) (name : List ℕ) (b : Bool) → in_front_of (cond b None None) [] ≡ []
+nothing_first items installed name true = refl
+nothing_first items installed name false = refl
+
+pub ranked_nowhere : (pools : List NamePool) (items : List Asked) (installed : List PkgRecord) (name : List ℕ) → IsRequest pools items → All (λ (pool : NamePool). pool.name ≡ name → ⊥) pools →
+    numbers (ranked_variables pools items installed name) ≡ []
+ranked_nowhere pools items installed name request none =
+    let e : of_name name 1 (records pools) ≡ [] = nowhere name 1 pools (own_of pools items request) (λ pool i same.
+    let c = to_contains pools pool i in
+    none c.0 pool c.1 (ap (λ (p : NamePool). p.name) c.2 ∙ same)) in
+    ap (λ xs. numbers (in_front_of (installed_variable items installed name xs) xs)) e
+    ∙ ap numbers (nothing_first items installed name (is_fresh items name))
+
+first_number : (o : Option Numbered) (k : Option ℕ) (xs : List Numbered) → option_map (λ (x : Numbered). x.0) o ≡ k → numbers (in_front_of o xs) ≡ option_map_or (λ n. n ∷ numbers xs) k (numbers xs)
+first_number None k xs e = ap (λ q. option_map_or (λ n. n ∷ numbers xs) q (numbers xs)) e
+first_number (Some x) k xs e = ap (λ q. option_map_or (λ n. n ∷ numbers xs) q (numbers xs)) e
+
+front_number : (q : PkgRecord → Bool) (n : ℕ) (recs : List PkgRecord) (b : Bool) (place : Option ℕ) → place ≡ cond b None (position q recs) →
+    option_map (λ (x : Numbered). x.0) (cond b None (find (λ x. q x.1) (numbered n recs))) ≡ option_map (λ k. n + k) place
+front_number q n recs true place e = sym (ap (option_map (λ k. n + k)) e)
+front_number q n [] false place e = sym (ap (option_map (λ k. n + k)) e)
+front_number q n (r ∷ rs) false place e = by (position q (r ∷ rs)) refl
+  where
+    by : (o : Option ℕ) → position q (r ∷ rs) ≡ o → option_map (λ (x : Numbered). x.0) (find (λ x. q x.1) (numbered n (r ∷ rs))) ≡ option_map (λ k. n + k) place
+    by None p = ap (option_map (λ (x : Numbered). x.0)) (front_none q n (r ∷ rs) p) ∙ sym (ap (option_map (λ k. n + k)) (e ∙ p))
+    by (Some k) p = ap (option_map (λ (x : Numbered). x.0)) (front_some q n (r ∷ rs) k r p) ∙ sym (ap (option_map (λ k. n + k)) (e ∙ p))
+
+-- the variables of a name whose pool is at this place, where the installed one stands at `place` of it
+pub ranked_there : (pools : List NamePool) (items : List Asked) (installed : List PkgRecord) (name : List ℕ) (at first : ℕ) (d : NamePool) (recs : List PkgRecord) (place : Option ℕ) →
+    IsRequest pools items → at < length pools → (get_or pools at d).name ≡ name → first ≡ 1 + length (records (take at pools)) → recs ≡ (get_or pools at d).recs →
+    place ≡ cond (is_fresh items name) None (position (is_installed (filter (has_name name) installed)) recs) →
+    numbers (ranked_variables pools items installed name) ≡ option_map_or (λ n. n ∷ numbers (numbered first recs)) (option_map (λ k. first + k) place) (numbers (numbered first recs))
+ranked_there pools items installed name at first d recs place request lt e f same p =
+    let q = is_installed (filter (has_name name) installed) in
+    let xs : of_name name 1 (records pools) ≡ numbered first recs =
+    at_place name 1 pools at d (own_of pools items request) lt e ∙ ap (λ k. numbered k (get_or pools at d).recs) (sym f) ∙ ap (numbered first) (sym same) in
+    ap (λ ys. numbers (in_front_of (installed_variable items installed name ys) ys)) xs
+    ∙ first_number (installed_variable items installed name (numbered first recs)) (option_map (λ k. first + k) place) (numbered first recs)
+    (front_number q first recs (is_fresh items name) place p)

@@ -10,7 +10,7 @@ use Rattle.conda_record.specs.declared.pkg_record.PkgRecord.{PkgRecord}
 use Rattle.conda_record.specs.declared.pool.NamePool.{NamePool}
 use Rattle.conda_encode.specs.Clauses.{clauses, on}
 use Rattle.conda_encode.specs.Models.{IsModel}
-use Rattle.conda_encode.specs.Sides.{side_of}
+use Rattle.conda_encode.specs.Sides.{is_within, side_of}
 use Rattle.conda_encode.specs.Variables.{IsRequest, records, variables, vars_of}
 use Rattle.conda_encode.specs.declared.asked.Asked.{Asked}
 use Rattle.conda_encode.proofs.Literals.{by_side, on_from, on_true}
@@ -60,7 +60,7 @@ starts pools items installed called entries assumed sides e none nothing model =
       leads = λ end l. l;
       called_are = e;
       seen = λ name i. absurd i;
-      within = ap (λ ls. list_all _ ls) nothing;
+      within = ap (λ ls. list_all (is_within (vars_of pools)) ls) nothing;
       model = subst P (sym nothing) model;
     }
 
@@ -114,8 +114,16 @@ pub passed : (pools : List NamePool) (items : List Asked) (installed : List PkgR
     IsWalk pools items installed called at entries assumed sides → at < length called → get_or called at name ≡ name → is_some (lookup (is_text name) entries) ≡ true →
     IsWalk pools items installed called (at + 1) entries assumed sides
 passed pools items installed called at entries assumed sides name w lt e h =
-    record w {
+    record {
+      xs = w.xs;
+      named = w.named;
+      literals_are = w.literals_are;
+      sound = w.sound;
+      leads = w.leads;
+      called_are = w.called_are;
       seen = seen_next called at name (λ n. is_decided (plain w.xs) n ≡ true) lt e w.seen (sym (known pools items installed called at entries assumed sides w name) ∙ h);
+      within = w.within;
+      model = w.model;
     }
 
 -- ---- literals that are true

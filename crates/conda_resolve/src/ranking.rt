@@ -6,7 +6,7 @@ ghost use Rattle.conda_resolve.specs.Choice.{has_name, is_fresh, is_installed};
 
 use crate::names::{has_name, is_same_slot, is_wanted};
 use crate::places::Places;
-use conda_base::Text;
+use conda_base::{Copied, Text};
 use conda_encode::Asked;
 use conda_record::{NamePool, PkgRecord};
 use std::alloc::{AllocError, Global};
@@ -19,28 +19,27 @@ fn is_fresh(asked: &[Asked], name: &str) -> bool
 }
 
 /// The installed records of the name.
-fn installed_of<'a>(
+fn installed_of(
     alloc: Global,
-    installed: &'a [PkgRecord],
+    installed: &[PkgRecord],
     name: &str,
-) -> Result<Vec<&'a PkgRecord>, AllocError>
-    ensures { IfOk result (λ list. map (λ r. r.now) list.items
-        ≡ filter (has_name name.now) installed.now) }
+) -> Result<Vec<PkgRecord>, AllocError>
+    ensures { IfOk result (λ list. list.items ≡ filter (has_name name.now) installed.now) }
 {
-    let mut list: Vec<&PkgRecord> = Vec::new(alloc);
+    let mut list = Vec::new(alloc);
     for pkg in installed {
         if has_name(name, pkg) {
-            list.push(pkg)?;
+            list.push(pkg.copy()?)?;
         }
     }
     Ok(list)
 }
 
 /// Whether one of these records is installed here.
-fn is_installed(installed: &[&PkgRecord], pkg: &PkgRecord) -> bool
-    ensures { result ≡ is_installed (map (λ r. r.now) installed.now) pkg.now }
+fn is_installed(installed: &[PkgRecord], pkg: &PkgRecord) -> bool
+    ensures { result ≡ is_installed installed.now pkg.now }
 {
-    installed.iter().any(|other| is_same_slot(pkg, *other))
+    installed.iter().any(|other| is_same_slot(pkg, other))
 }
 
 /// The place of the record that comes before the others because it is installed.
