@@ -213,9 +213,12 @@ never_none pools items installed called at entries assumed sides name candidates
     let rv = ranked_variables pools items installed name in
     let P : List ℕ → Type 0 = λ ns. In a.found.0 ns in
     let i : In a.found.0 candidates = subst P (sym are) (in_map (λ (x : Numbered). x.0) rv a.found (to_rank pools items installed name a.found a.is_true.0 a.named)) in
-    none a.found.0 (to_contains candidates a.found.0 i)
-    (v, w.model.clauses_true, ap (λ ls. list_all (literal_true v) (ls ++ on a.found.0 ∷ [])) w.literals_are
-    ∙ sym (ap (list_all (literal_true v)) (literals_more w.xs a.found)) ∙ literals_true pools v (w.xs ++ a.found ∷ []) (all_more pools v w.xs a.found all a.is_true))
+    none a.found.0 (to_contains candidates a.found.0 i) (
+      v,
+      w.model.clauses_true,
+      ap (λ ls. list_all (literal_true v) (ls ++ on a.found.0 ∷ [])) w.literals_are
+          ∙ sym (ap (list_all (literal_true v)) (literals_more w.xs a.found)) ∙ literals_true pools v (w.xs ++ a.found ∷ []) (all_more pools v w.xs a.found all a.is_true),
+    )
 
 -- the record of the variable that was found is decided
 pub further : (pools : List NamePool) (items : List Asked) (installed : List PkgRecord) (called more : List (List ℕ)) (at : ℕ) (entries entries' : List (List ℕ × ℕ)) (assumed assumed' : List ℤ) (sides sides' : List Bool)

@@ -45,7 +45,11 @@ fn solutions(
     asked: &[Asked],
 ) -> Result<Vec<Members>, AllocError> {
     let mut found = Vec::new(alloc);
-    for number in 0..4096_u32 {
+    let mut count = 1_u32;
+    for _ in recs {
+        count = count.saturating_mul(2);
+    }
+    for number in 0..count {
         let mut members = Vec::new(alloc);
         let mut set = Vec::new(alloc);
         let mut rest = number;
@@ -57,7 +61,7 @@ fn solutions(
             members.push(is_member)?;
             rest /= 2;
         }
-        if rest == 0 && is_solution(alloc, set.as_slice(), asked)? {
+        if is_solution(alloc, set.as_slice(), asked)? {
             found.push(members)?;
         }
     }
@@ -96,11 +100,7 @@ fn is_decided(recs: &[PkgRecord], decided: &[usize], name: &str) -> bool {
 }
 
 /// The first name that comes up and isn't decided.
-fn next_name<'a>(
-    recs: &'a [PkgRecord],
-    asked: &'a [Asked],
-    decided: &[usize],
-) -> Option<&'a str> {
+fn next_name<'a>(recs: &'a [PkgRecord], asked: &'a [Asked], decided: &[usize]) -> Option<&'a str> {
     for item in asked {
         let name = item.spec.name();
         if matches!(item.kind, AskKind::Wanted) && !is_decided(recs, decided, name) {
@@ -136,12 +136,11 @@ fn picked(
     decided: &[usize],
     name: &str,
 ) -> Option<usize> {
-    let is_fresh = asked
-        .iter()
-        .any(|item| matches!(item.kind, AskKind::Wanted) && item.fresh && item.spec.name() == name);
-    let own = recs
-        .iter()
-        .position(|pkg| has_name(pkg, name) && installed.iter().any(|other| is_same(pkg, other)));
+    let is_fresh = asked.iter().any(|item| matches!(item.kind, AskKind::Wanted)
+        && item.fresh
+        && item.spec.name() == name);
+    let own = recs.iter().position(|pkg| has_name(pkg, name)
+        && installed.iter().any(|other| is_same(pkg, other)));
     if let Some(at) = own {
         if !is_fresh && stands(solutions, decided, at) {
             return Some(at);
@@ -164,9 +163,8 @@ fn is_member(members: &Members, at: usize) -> bool {
 }
 
 fn stands(solutions: &[Members], decided: &[usize], at: usize) -> bool {
-    solutions
-        .iter()
-        .any(|members| is_member(members, at) && decided.iter().all(|d| is_member(members, *d)))
+    solutions.iter().any(|members| is_member(members, at)
+        && decided.iter().all(|d| is_member(members, *d)))
 }
 
 /// The records at these places, by name.
