@@ -1,14 +1,16 @@
 -- The order in which the records of a name are tried, by their variables.
-use Rattle.std.proofs.Common.{◌≡◌, ◌≢◌, ℕ, zero, suc, ◌+◌, ◌<◌, ◌≤◌, Bool, true, false, cond, List, [], ◌∷◌, ◌++◌, Option, None, Some, filter, find, length, map, position, take, get_or, nat_lt, refl, sym, ap, ◌∙◌, subst, ◌⊎◌, inl, inr, true≢false, arith}
+use Rattle.std.proofs.Common.{◌≡◌, ◌≢◌, ℕ, zero, suc, ◌+◌, ◌^◌, ◌<◌, ◌≤◌, Bool, true, false, cond, List, [], ◌∷◌, ◌++◌, Option, None, Some, filter, find, length, map, position, take, get_or, nat_lt, refl, sym, ap, ◌∙◌, subst, ◌⊎◌, inl, inr, true≢false, arith}
 use Rattle.std.proofs.lemmas.Bool.{lt-ltb}
 use Rattle.std.proofs.lemmas.List.{append-nil, append_assoc, length-append}
 use Rattle.std.proofs.lemmas.List.Elements.{filter-append}
+use Rattle.std.proofs.lemmas.List.Folds.{length-flat_map-take}
 use Rattle.std.proofs.lemmas.List.Quantifiers.{position-Some}
 use Rattle.std.proofs.lemmas.List.Sums.{fails_before_first}
 use Rattle.std.specs.List.{All, AllPairs, Contains, position_or_len}
 use Rattle.std.specs.Option.{option_map, option_map_or}
 use Rattle.conda_record.specs.declared.pkg_record.PkgRecord.{PkgRecord}
 use Rattle.conda_record.specs.declared.pool.NamePool.{NamePool}
+use Rattle.conda_encode.specs.Known.{starts_of}
 use Rattle.conda_encode.specs.Matching.{lowered}
 use Rattle.conda_encode.specs.Variables.{IsRequest, numbered, records, variables}
 use Rattle.conda_encode.specs.declared.asked.Asked.{Asked}
@@ -16,6 +18,7 @@ use Rattle.conda_encode.proofs.Literals.{by_side}
 use Rattle.conda_encode.proofs.Members.{In, in_filter, numbered_in, of_filter, of_flat_map, to_contains}
 use Rattle.conda_encode.proofs.Ones.{Own, first_pair, numbered-append, rest_own, same_or_less}
 use Rattle.conda_encode.proofs.Sides.{Numbered}
+use Rattle.conda_encode.proofs.Starts.{start_at}
 use Rattle.conda_resolve.specs.Asking.{in_front_of, installed_variable, ranked_variables}
 use Rattle.conda_resolve.specs.Choice.{has_name, in_front, installed_one, is_fresh, is_installed, ranked}
 use Rattle.conda_resolve.proofs.Naming.{find_nowhere, find_some, has_is, is_has, name_of, numbers, plain}
@@ -241,3 +244,43 @@ ranked_there pools items installed name at first d recs place request lt e f sam
     ap (λ ys. numbers (in_front_of (installed_variable items installed name ys) ys)) xs
     ∙ first_number (installed_variable items installed name (numbered first recs)) (option_map (λ k. first + k) place) (numbered first recs)
     (front_number q first recs (is_fresh items name) place p)
+
+-- the variable of the first record of the pool at this place
+pub first_is : (pools : List NamePool) (starts : List ℕ) (at first : ℕ) → starts ≡ starts_of 1 pools → at < length pools → first ≡ get_or starts at first →
+    first ≡ 1 + length (records (take at pools))
+first_is pools starts at first e lt is = is ∙ ap (λ s. get_or s at first) e ∙ start_at 1 pools at first lt
+
+pub first_fits : (pools : List NamePool) (items : List Asked) (starts : List ℕ) (at first : ℕ) (pool : NamePool) (recs : List PkgRecord) → IsRequest pools items → starts ≡ starts_of 1 pools →
+    at < length pools → first ≡ get_or starts at first → recs ≡ (get_or pools at pool).recs → first + length recs < 2 ^ 31
+first_fits pools items starts at first pool recs request e lt is same =
+    let a = first_is pools starts at first e lt is in
+    let b = length-flat_map-take (λ (p : NamePool). p.recs) pools at pool lt in
+    let c : length recs ≡ length (get_or pools at pool).recs = ap length same in
+    omega (arith, request.few, a, b, c)
+
+pub place_within : (q : PkgRecord → Bool) (b : Bool) (recs : List PkgRecord) (place : Option ℕ) (k : ℕ) → place ≡ cond b None (position q recs) → place ≡ Some k → k < length recs
+place_within q true recs place k e f = (let x : Some k ≡ None = sym f ∙ e in cc)
+place_within q false [] place k e f = (let x : Some k ≡ None = sym f ∙ e in cc)
+place_within q false (r ∷ rs) place k e f = (position-Some q (r ∷ rs) k r (sym e ∙ f)).0
+
+-- the number of the installed one, if there is one, and nothing else
+abbrev pub front_of : ℕ → Option ℕ → List ℕ
+front_of first place = option_map_or (λ n. n ∷ []) (option_map (λ k. first + k) place) []
+
+pub front_pushed : (first k : ℕ) (place : Option ℕ) (empty list : List ℕ) → place ≡ Some k → empty ≡ [] → list ≡ empty ++ (first + k) ∷ [] → list ≡ front_of first place
+front_pushed first k place empty list e f g = g ∙ ap (λ xs. xs ++ (first + k) ∷ []) f ∙ sym (ap (front_of first) e)
+
+pub front_empty : (first : ℕ) (place : Option ℕ) (list : List ℕ) → place ≡ None → list ≡ [] → list ≡ front_of first place
+front_empty first place list e f = f ∙ sym (ap (front_of first) e)
+
+front_before : (first : ℕ) (place : Option ℕ) (ns : List ℕ) → front_of first place ++ ns ≡ option_map_or (λ n. n ∷ ns) (option_map (λ k. first + k) place) ns
+front_before first None ns = refl
+front_before first (Some k) ns = refl
+
+pub ranked_listed : (pools : List NamePool) (items : List Asked) (installed : List PkgRecord) (name starts : List ℕ) (at first : ℕ) (pool : NamePool) (recs : List PkgRecord) (place : Option ℕ) (front list : List ℕ) →
+    IsRequest pools items → starts ≡ starts_of 1 pools → at < length pools → (get_or pools at pool).name ≡ name → first ≡ get_or starts at first → recs ≡ (get_or pools at pool).recs →
+    place ≡ cond (is_fresh items name) None (position (is_installed (filter (has_name name) installed)) recs) →
+    front ≡ front_of first place → list ≡ front ++ numbers (numbered first recs) → list ≡ numbers (ranked_variables pools items installed name)
+ranked_listed pools items installed name starts at first pool recs place front list request e lt named is same p f g =
+    g ∙ ap (λ xs. xs ++ numbers (numbered first recs)) f ∙ front_before first place (numbers (numbered first recs))
+    ∙ sym (ranked_there pools items installed name at first pool recs place request lt named (first_is pools starts at first e lt is) same p)

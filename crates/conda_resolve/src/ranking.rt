@@ -42,6 +42,13 @@ fn is_installed(installed: &[PkgRecord], pkg: &PkgRecord) -> bool
     installed.iter().any(|other| is_same_slot(pkg, other))
 }
 
+/// The place of the first of the records that is one of those installed.
+fn first_installed(installed: &[PkgRecord], recs: &[PkgRecord]) -> Option<usize>
+    ensures { result ≡ position (is_installed installed.now) recs.now }
+{
+    recs.iter().position(|pkg| is_installed(installed, pkg))
+}
+
 /// The place of the record that comes before the others because it is installed.
 fn installed_place(
     alloc: Global,
@@ -57,8 +64,7 @@ fn installed_place(
         return Ok(None);
     }
     let own = installed_of(alloc, installed, name)?;
-    let own = own.as_slice();
-    Ok(recs.iter().position(|pkg| is_installed(own, pkg)))
+    Ok(first_installed(own.as_slice(), recs))
 }
 
 /// Adds the variables of so many records, of which the first has this one.
