@@ -1,8 +1,9 @@
 -- The decided records, gathered by name.
-use Rattle.std.proofs.Common.{◌≡◌, ◌↔◌, ℕ, zero, suc, ◌+◌, ◌-◌, ◌<◌, ◌≤◌, Bool, true, false, List, [], ◌∷◌, ◌++◌, Option, None, Some, length, map, take, get_or, slice_get, refl, sym, ap, ◌∙◌, subst, ◌⊎◌, inl, inr, true≢false, arith}
+use Rattle.std.proofs.Common.{◌≡◌, ◌↔◌, ℕ, zero, suc, ◌+◌, ◌-◌, ◌<◌, ◌≤◌, Bool, true, false, List, [], ◌∷◌, ◌++◌, Option, None, Some, Bor, length, map, take, get_or, slice_get, refl, sym, ap, ◌∙◌, subst, ◌⊎◌, inl, inr, true≢false, arith}
 use Rattle.std.proofs.lemmas.Cmp.{nat_list_cmp_total}
-use Rattle.std.proofs.lemmas.List.{take_all, take_more}
+use Rattle.std.proofs.lemmas.List.{get_or-map, length-map, take_all, take_more}
 use Rattle.std.proofs.lemmas.List.Sorted.{Contains-permutation, IsPermutation-sym}
+use Rattle.std.proofs.lemmas.Option.{get_or_from_slice_get, slice_get-get_or, slice_get_within}
 use Rattle.std.specs.Cmp.Lexicographic.{pointwise, slice_cmp, texts_ties}
 use Rattle.std.specs.List.{Contains, IsDistinct}
 use Rattle.std.specs.List.Sorted.{IsPermutation, IsSorted}
@@ -14,13 +15,14 @@ use Rattle.std.specs.declared.cmp.Ordering.TheVariants.{Less, Equal, Greater}
 use Rattle.conda_base.specs.Texts.{Ascending}
 use Rattle.conda_record.specs.declared.pkg_record.PkgRecord.{PkgRecord}
 use Rattle.conda_record.specs.declared.pool.NamePool.{NamePool}
-use Rattle.conda_encode.specs.Variables.{records, variables}
+use Rattle.conda_encode.specs.Variables.{numbered, records, variables}
 use Rattle.conda_encode.specs.declared.asked.Asked.{Asked}
-use Rattle.conda_encode.proofs.Members.{In, from_contains, in_map, number_once, of_map, to_contains}
+use Rattle.conda_encode.proofs.Members.{In, from_contains, in_map, number_high, number_low, number_once, of_map, to_contains}
 use Rattle.conda_encode.proofs.Sides.{Numbered}
 use Rattle.conda_resolve.specs.Asking.{AreDecided}
 use Rattle.conda_resolve.specs.Choice.{IsChoice}
 use Rattle.conda_resolve.proofs.Naming.{name_of, plain}
+use Rattle.conda_resolve.proofs.Ranks.{in_at}
 use Rattle.conda_resolve.proofs.Sorted.{names_of}
 use Rattle.conda_resolve.proofs.Steps.{pair_of}
 use Rattle.conda_resolve.proofs.Walk.{in_plain, of_plain}
@@ -145,3 +147,55 @@ gathered pools items installed old new set d moved order distinct match =
       );
       by_name = (let P : List (List ℕ) → Type 0 = λ ks. Ascending ks in subst P (sym names) (ascends (keys_of new) order distinct));
     }
+
+-- ---- the record of an entry, behind references
+
+lent_length : (recs : List (Bor PkgRecord)) (xs : List PkgRecord) → map (λ (b : Bor PkgRecord). b.now) recs ≡ xs → length xs ≡ length recs
+lent_length recs xs e = ap length (sym e) ∙ length-map recs (λ (b : Bor PkgRecord). b.now)
+
+in_numbered : (s : ℕ) (rs : List PkgRecord) (i : ℕ) (d : PkgRecord) → i < length rs → In (s + i, get_or rs i d) (numbered s rs)
+in_numbered s [] i d lt = absurd (omega arith)
+in_numbered s (r ∷ rs) zero d lt = (let e : s ≡ s + 0 = omega arith in inl (ap (λ n. (n, r)) e))
+in_numbered s (r ∷ rs) (suc i) d lt =
+    let e : s + 1 + i ≡ s + suc i = omega arith in
+    let P : ℕ → Type 0 = λ n. In (n, get_or rs i d) (numbered (s + 1) rs) in
+    inr (subst P e (in_numbered (s + 1) rs i d (omega arith)))
+
+record_there : (pools : List NamePool) (recs : List (Bor PkgRecord)) (n : ℕ) (r : Bor PkgRecord) → map (λ (b : Bor PkgRecord). b.now) recs ≡ records pools → 1 ≤ n → n ≤ length recs →
+    r ≡ get_or recs (n - 1) r → In (n, r.now) (variables pools)
+record_there pools recs n r lent low high is =
+    let count = lent_length recs (records pools) lent in
+    let at : get_or (records pools) (n - 1) r.now ≡ r.now =
+    ap (λ ls. get_or ls (n - 1) r.now) (sym lent) ∙ get_or-map (λ (b : Bor PkgRecord). b.now) recs (n - 1) r r.now (omega (arith, low, high)) ∙ ap (λ (b : Bor PkgRecord). b.now) (sym is) in
+    let here : In (1 + (n - 1), get_or (records pools) (n - 1) r.now) (variables pools) = in_numbered 1 (records pools) (n - 1) r.now (omega (arith, low, high, count)) in
+    let e : 1 + (n - 1) ≡ n = omega (arith, low) in
+    let P : ℕ → Type 0 = λ k. In (k, get_or (records pools) (n - 1) r.now) (variables pools) in
+    let Q : PkgRecord → Type 0 = λ m. In (n, m) (variables pools) in
+    subst Q at (subst P e here)
+
+pub entry_fits : (pools : List NamePool) (items : List Asked) (installed : List PkgRecord) (old new : List Entry) (recs : List (Bor PkgRecord)) (at : ℕ) (e : Entry) →
+    AreDecided pools items installed old → IsPermutation old new → map (λ (b : Bor PkgRecord). b.now) recs ≡ records pools → slice_get new at ≡ Some e → (1 ≤ e.1) × (e.1 ≤ length recs)
+entry_fits pools items installed old new recs at e d moved lent here =
+    let P : Entry → Type 0 = λ u. In u new in
+    let i : In e new = subst P (get_or_from_slice_get new at e e here) (in_at new at e (slice_get_within new at e here)) in
+    let x = entry_of pools items installed old new d moved e i in
+    let n : x.0.0 ≡ e.1 = ap (λ (u : Entry). u.1) x.3 in
+    let low = number_low 1 (records pools) x.0 x.2 in
+    let high = number_high 1 (records pools) x.0 x.2 in
+    let count = lent_length recs (records pools) lent in
+    (omega (arith, n, low), omega (arith, n, high, count))
+
+pub match_step : (pools : List NamePool) (items : List Asked) (installed : List PkgRecord) (old new : List Entry) (recs : List (Bor PkgRecord)) (at : ℕ) (e : Entry) (r : Bor PkgRecord) (m : PkgRecord)
+    (ms more : List PkgRecord) → AreDecided pools items installed old → IsPermutation old new → map (λ (b : Bor PkgRecord). b.now) recs ≡ records pools → slice_get new at ≡ Some e →
+    r ≡ get_or recs (e.1 - 1) r → m ≡ r.now → Match pools (take at new) ms → more ≡ ms ++ m ∷ [] → Match pools (take (at + 1) new) more
+match_step pools items installed old new recs at e r m ms more d moved lent here is same match put =
+    let fits = entry_fits pools items installed old new recs at e d moved lent here in
+    let P : PkgRecord → Type 0 = λ k. In (e.1, k) (variables pools) in
+    match_more pools new at e ms more m (slice_get_within new at e here) (get_or_from_slice_get new at e e here) match
+    (subst P (sym same) (record_there pools recs e.1 r lent fits.0 fits.1 is)) put
+
+pub match_start : (pools : List NamePool) (es : List Entry) (ms : List PkgRecord) → ms ≡ [] → Match pools (take 0 es) ms
+match_start pools es ms e = (let P : List PkgRecord → Type 0 = λ ks. Match pools [] ks in subst P (sym e) tt)
+
+pub none_past : (es : List Entry) (i : ℕ) → i < length es → slice_get es i ≡ None → ⊥
+none_past es i lt none = (let e = sym none ∙ slice_get-get_or es i ([], 0) lt in cc)

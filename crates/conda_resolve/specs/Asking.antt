@@ -1,6 +1,10 @@
 -- What is asked of the solver while names are decided.
 use Rattle.std.specs.Prelude.{◌≡◌, ℕ, ℤ, Bool, true, not, ◌&&◌, if◌then◌else◌, List, [], ◌∷◌, ◌++◌, filter, find, length, map, Option, None, Some}
+use Rattle.std.specs.Cmp.Lexicographic.{slice_cmp}
 use Rattle.std.specs.List.{Contains, list_all}
+use Rattle.std.specs.List.Sorted.{IsPermutation, IsSorted}
+use Rattle.std.specs.Map.{keys_of}
+use Rattle.std.specs.Ordering.{nat_cmp}
 use Rattle.conda_refute.specs.Literals.{clause_true, literal_true}
 use Rattle.conda_record.specs.declared.pkg_record.PkgRecord.{PkgRecord}
 use Rattle.conda_record.specs.declared.pool.NamePool.{NamePool}
@@ -43,6 +47,13 @@ pub record AreDecided (pools : List NamePool) (items : List Asked) (installed : 
   pub named : entries ≡ map (λ x. (lowered x.1.name, x.0)) xs
   pub numbered : (x : ℕ × PkgRecord) → Contains xs x → Contains (variables pools) x
   pub leads : LeadsTo pools items installed [] (map (λ x. x.1) xs)
+
+-- the same entries in the order of their names
+pub record AreOrdered (pools : List NamePool) (items : List Asked) (installed : List PkgRecord) (entries : List (List ℕ × ℕ)) : Type 0 where
+  pub decided : List (List ℕ × ℕ)
+  pub are : AreDecided pools items installed decided
+  pub moved : IsPermutation decided entries
+  pub sorted : IsSorted (slice_cmp nat_cmp) (keys_of entries)
 
 -- the literals are of so many variables
 abbrev pub AreWithin : ℕ → List ℤ → Type 0
