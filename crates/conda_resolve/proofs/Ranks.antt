@@ -1,17 +1,16 @@
 -- The order in which the records of a name are tried, by their variables.
-use Rattle.std.proofs.Common.{◌≡◌, ◌≢◌, ℕ, zero, suc, ◌+◌, ◌^◌, ◌<◌, ◌≤◌, Bool, true, false, cond, List, [], ◌∷◌, ◌++◌, Option, None, Some, filter, find, length, map, position, take, get_or, nat_lt, refl, sym, ap, ◌∙◌, subst, ◌⊎◌, inl, inr, true≢false, arith}
+use Rattle.std.proofs.Common.{◌≡◌, ◌≢◌, ℕ, zero, suc, ◌+◌, ◌^◌, ◌<◌, Bool, true, false, cond, List, [], ◌∷◌, ◌++◌, Option, None, Some, filter, find, length, position, take, get_or, refl, sym, ap, ◌∙◌, subst, inl, inr, arith}
 use Rattle.std.proofs.lemmas.Bool.{lt-ltb}
 use Rattle.std.proofs.lemmas.List.{append-nil, append_assoc, length-append}
 use Rattle.std.proofs.lemmas.List.Elements.{filter-append}
 use Rattle.std.proofs.lemmas.List.Folds.{length-flat_map-take}
 use Rattle.std.proofs.lemmas.List.Quantifiers.{position-Some}
 use Rattle.std.proofs.lemmas.List.Sums.{fails_before_first}
-use Rattle.std.specs.List.{All, AllPairs, Contains, position_or_len}
+use Rattle.std.specs.List.{All, position_or_len}
 use Rattle.std.specs.Option.{option_map, option_map_or}
 use Rattle.conda_record.specs.declared.pkg_record.PkgRecord.{PkgRecord}
 use Rattle.conda_record.specs.declared.pool.NamePool.{NamePool}
 use Rattle.conda_encode.specs.Known.{starts_of}
-use Rattle.conda_encode.specs.Matching.{lowered}
 use Rattle.conda_encode.specs.Variables.{IsRequest, numbered, records, variables}
 use Rattle.conda_encode.specs.declared.asked.Asked.{Asked}
 use Rattle.conda_encode.proofs.Literals.{by_side}

@@ -16,17 +16,17 @@ index-first-requires c =
 pub overflow_cast-place : goal.overflow_cast-place
 overflow_cast-place c =
     let fits = first_fits c.args.pools.now c.args.asked.now c.args.places.now.starts.items c.in-Some.at c.index-first.result.now c.index-pools-at.result c.as_slice-recs.result.now
-        c.requires.request c.requires.starts c.in-Some.ensures.0 c.index-first.ensures c.as_slice-recs.ensures in
+    c.requires.request c.requires.starts c.in-Some.ensures.0 c.index-first.ensures c.as_slice-recs.ensures in
     let within = place_within (is_installed (filter (has_name c.as_str.result.now) c.args.installed.now)) (is_fresh c.args.asked.now c.as_str.result.now) c.as_slice-recs.result.now
-        c.in_ok-place.field-0 c.in-Some-2.place c.in_ok-place.ensures c.in-Some-2.is in
+    c.in_ok-place.field-0 c.in-Some-2.place c.in_ok-place.ensures c.in-Some-2.is in
     omega (arith, fits, within)
 
 pub overflow_add-first : goal.overflow_add-first
 overflow_add-first c =
     let fits = first_fits c.args.pools.now c.args.asked.now c.args.places.now.starts.items c.in-Some.at c.index-first.result.now c.index-pools-at.result c.as_slice-recs.result.now
-        c.requires.request c.requires.starts c.in-Some.ensures.0 c.index-first.ensures c.as_slice-recs.ensures in
+    c.requires.request c.requires.starts c.in-Some.ensures.0 c.index-first.ensures c.as_slice-recs.ensures in
     let within = place_within (is_installed (filter (has_name c.as_str.result.now) c.args.installed.now)) (is_fresh c.args.asked.now c.as_str.result.now) c.as_slice-recs.result.now
-        c.in_ok-place.field-0 c.in-Some-2.place c.in_ok-place.ensures c.in-Some-2.is in
+    c.in_ok-place.field-0 c.in-Some-2.place c.in_ok-place.ensures c.in-Some-2.is in
     omega (arith, fits, within)
 
 pub add_variables-requires : goal.add_variables-requires

@@ -1,4 +1,4 @@
-use Rattle.std.proofs.Common.{◌≡◌, ◌≤◌, ◌<◌, ◌++◌, [], ◌∷◌, None, Some, length, slice_get, sym, refl, arith}
+use Rattle.std.proofs.Common.{◌≡◌, ◌≤◌, ◌++◌, [], ◌∷◌, None, Some, length, slice_get, sym, refl, arith}
 use Rattle.conda_resolve.proofs.Gathered.{entry_fits, gathered, match_all, match_start, match_step, none_past}
 use Rattle.conda_resolve.proofs.sorting.records_of.Goals.{in-Some+in_ok-copy+in_ok-push, in_default}
 use Rattle.conda_resolve.proofs.sorting.records_of.Goals as goal
@@ -11,7 +11,7 @@ overflow_sub-variable c =
     let d = c.requires.decided in
     let here : slice_get c.args.decided.now.entries c.loop-at.at ≡ Some (c.in-Some.field-0-0.now, c.in-Some.variable.now) = sym c.in-Some.ensures.entry in
     let fits = entry_fits c.args.pools.now c.args.asked.now c.args.installed.now d.decided c.args.decided.now.entries c.args.recs.now c.loop-at.at
-        (c.in-Some.field-0-0.now, c.in-Some.variable.now) d.are d.moved c.requires.recs here in
+    (c.in-Some.field-0-0.now, c.in-Some.variable.now) d.are d.moved c.requires.recs here in
     fits.0
 
 pub bounds-recs-variable : goal.bounds-recs-variable
@@ -19,7 +19,7 @@ bounds-recs-variable c =
     let d = c.requires.decided in
     let here : slice_get c.args.decided.now.entries c.loop-at.at ≡ Some (c.in-Some.field-0-0.now, c.in-Some.variable.now) = sym c.in-Some.ensures.entry in
     let fits = entry_fits c.args.pools.now c.args.asked.now c.args.installed.now d.decided c.args.decided.now.entries c.args.recs.now c.loop-at.at
-        (c.in-Some.field-0-0.now, c.in-Some.variable.now) d.are d.moved c.requires.recs here in
+    (c.in-Some.field-0-0.now, c.in-Some.variable.now) d.are d.moved c.requires.recs here in
     let low : 1 ≤ c.in-Some.variable.now = fits.0 in
     let high : c.in-Some.variable.now ≤ length c.args.recs.now = fits.1 in
     omega (arith, low, high)
