@@ -45,6 +45,15 @@ none_all cs assumed candidates i le none =
     let P : List ℕ → Type 0 = λ ns. NoneOpen cs assumed ns in
     subst P (take_all i candidates le) none
 
+first_among : (P : ℕ → Type 0) (ns : List ℕ) (n : ℕ) → IsFirst P ns n → In n ns
+first_among P [] n first = absurd first
+first_among P (m ∷ ns) n (inl f) = inl f.0
+first_among P (m ∷ ns) n (inr f) = inr (first_among P ns n f.1)
+
+-- the first of these is one of them
+pub first_in : (P : ℕ → Type 0) (ns : List ℕ) (n : ℕ) → IsFirst P ns n → Contains ns n
+first_in P ns n first = to_contains ns n (first_among P ns n first)
+
 -- ---- one literal more
 
 pub all_last : {A : Type 0} (p : A → Bool) (xs : List A) (x : A) → list_all p xs ≡ true → p x ≡ true → list_all p (xs ++ x ∷ []) ≡ true

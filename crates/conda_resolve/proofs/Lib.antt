@@ -8,5 +8,6 @@ pub mod Sorted
 pub mod Choosing
 pub mod Asks
 pub mod Steps
+pub mod Progress
 pub mod Gathered
 pub mod Answering
