@@ -37,7 +37,8 @@ pub struct Known {
     pub splits: Vec<Split>,
 }
 
-fn places_of(alloc: Global, pools: &[NamePool]) -> Result<HashMap<Text, usize>, AllocError> {
+/// Where the pool of each name stands, as a hint for `place_of`.
+pub fn places_of(alloc: Global, pools: &[NamePool]) -> Result<HashMap<Text, usize>, AllocError> {
     let mut places = HashMap::new(alloc);
     for (at, pool) in pools.iter().enumerate() {
         places.insert(pool.name.copy()?, at)?;
@@ -46,7 +47,7 @@ fn places_of(alloc: Global, pools: &[NamePool]) -> Result<HashMap<Text, usize>, 
 }
 
 /// The variable of the first record of each pool.
-fn starts_of(alloc: Global, pools: &[NamePool]) -> Result<Vec<u32>, AllocError>
+pub fn starts_of(alloc: Global, pools: &[NamePool]) -> Result<Vec<u32>, AllocError>
     requires { length (records pools.now) < 2 ^ 28 }
     ensures { IfOk result (λ starts. starts.items ≡ starts_of 1 pools.now) }
 {
@@ -59,8 +60,8 @@ fn starts_of(alloc: Global, pools: &[NamePool]) -> Result<Vec<u32>, AllocError>
     Ok(starts)
 }
 
-/// Where the pool of the name stands, by a hint or else by looking at each pool.
-fn place_of(places: &HashMap<Text, usize>, pools: &[NamePool], name: &Text) -> Option<usize>
+/// Where the pool of the name stands, by a hint or else by looking at each pool. It takes no memory.
+pub fn place_of(places: &HashMap<Text, usize>, pools: &[NamePool], name: &Text) -> Option<usize>
     ensures { MatchOption result (All (λ pool. pool.name ≡ name.now → ⊥) pools.now)
         (λ at. IsOneNamed pools.now at name.now) }
 {

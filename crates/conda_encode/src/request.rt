@@ -6,6 +6,7 @@ ghost use Rattle.conda_encode.specs.Matching.{lowered};
 ghost use Rattle.conda_encode.specs.Variables.{IsPlain, IsRequest, records};
 
 use crate::asked::Asked;
+use crate::matching::is_lowered;
 use conda_record::{NamePool, PkgRecord};
 use conda_spec::Spec;
 
@@ -32,27 +33,11 @@ fn needs_plainly(pkg: &PkgRecord) -> bool
     are_plain(pkg.depends.as_slice()) && are_plain(pkg.constrains.as_slice())
 }
 
-fn need_plainly(recs: &[PkgRecord]) -> bool
+/// Whether no entry of these records has a star in its name. It takes no memory.
+pub fn need_plainly(recs: &[PkgRecord]) -> bool
     ensures { IsTrue result ↔ All NeedsPlainly recs.now }
 {
     recs.iter().all(|pkg| needs_plainly(pkg))
-}
-
-/// Whether this is the name in lower case.
-fn is_lowered(name: &str, low: &str) -> bool
-    ensures { IsTrue result ↔ lowered name.now ≡ low.now }
-{
-    let left = name.as_bytes();
-    let right = low.as_bytes();
-    if left.len() != right.len() {
-        return false;
-    }
-    for at in 0..left.len() {
-        if left[at].to_ascii_lowercase() != right[at] {
-            return false;
-        }
-    }
-    true
 }
 
 /// Whether all records are of the name.

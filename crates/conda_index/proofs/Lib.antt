@@ -1,3 +1,4 @@
+pub mod PartLemmas
 pub mod FilterLemmas
 pub mod OrderLemmas
 pub mod PoolLemmas

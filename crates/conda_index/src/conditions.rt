@@ -1,12 +1,11 @@
-ghost use Rattle.std.specs.Prelude.{◌≡◌, ◌≤◌, ◌+◌, All, IfOk, IsTrue, length, true};
+ghost use Rattle.std.specs.Prelude.{◌≡◌, ◌≤◌, ◌+◌, ◌↔◌, All, IfOk, IsTrue, length, true};
 ghost use Rattle.conda_path.specs.Dists.{is_dist};
-ghost use Rattle.conda_encode.specs.Variables.{IsPlain};
+ghost use Rattle.conda_encode.specs.Fit.{NeedsPlainly};
 ghost use Rattle.conda_index.specs.Pools.{NamesPlainly, given, index_limit, virtual_dist};
 
 use crate::virtuals::{Virtual, has_dist};
-use conda_record::PkgRecord;
+use conda_encode::need_plainly;
 use conda_repodata::Repodata;
-use conda_spec::Spec;
 use std::alloc::{AllocError, Global};
 
 /// The most records that an index takes, those that are hidden among them.
@@ -25,6 +24,9 @@ pub fn can_index(
     ensures plain { IfOk result (λ can. IsTrue can → All NamesPlainly (given parts.now)) }
     ensures few { IfOk result (λ can. IsTrue can →
         length (given parts.now) + length virtuals.now ≤ index_limit) }
+    ensures can { IfOk result (λ can. All (λ v. is_dist (virtual_dist v) ≡ true) virtuals.now →
+        All NamesPlainly (given parts.now) →
+        length (given parts.now) + length virtuals.now ≤ index_limit → IsTrue can) }
 {
     if !have_dists(alloc, virtuals)? {
         return Ok(false);
@@ -34,7 +36,7 @@ pub fn can_index(
 
 /// Whether each virtual package has a dist.
 fn have_dists(alloc: Global, virtuals: &[Virtual]) -> Result<bool, AllocError>
-    ensures { IfOk result (λ can. IsTrue can →
+    ensures { IfOk result (λ can. IsTrue can ↔
         All (λ v. is_dist (virtual_dist v) ≡ true) virtuals.now) }
 {
     for virtual_package in virtuals {
@@ -47,7 +49,7 @@ fn have_dists(alloc: Global, virtuals: &[Virtual]) -> Result<bool, AllocError>
 
 /// Whether there are at most as many records and virtual packages as an index takes.
 fn are_few(parts: &[Repodata], virtuals: &[Virtual]) -> bool
-    ensures { IsTrue result → length (given parts.now) + length virtuals.now ≤ index_limit }
+    ensures { IsTrue result ↔ length (given parts.now) + length virtuals.now ≤ index_limit }
 {
     let mut count = virtuals.len();
     for part in parts {
@@ -62,43 +64,7 @@ fn are_few(parts: &[Repodata], virtuals: &[Virtual]) -> bool
 
 /// Whether no entry of the parts' records names packages by a star.
 fn parts_name_plainly(parts: &[Repodata]) -> bool
-    ensures { IsTrue result → All NamesPlainly (given parts.now) }
+    ensures { IsTrue result ↔ All (λ part. All NeedsPlainly part.recs) parts.now }
 {
-    for part in parts {
-        if !name_plainly(part.recs.as_slice()) {
-            return false;
-        }
-    }
-    true
-}
-
-/// Whether no entry of the records names packages by a star.
-fn name_plainly(records: &[PkgRecord]) -> bool
-    ensures { IsTrue result → All NamesPlainly records.now }
-{
-    for pkg in records {
-        if !names_plainly(pkg) {
-            return false;
-        }
-    }
-    true
-}
-
-/// Whether no entry of the record names packages by a star.
-fn names_plainly(pkg: &PkgRecord) -> bool
-    ensures { IsTrue result → NamesPlainly pkg.now }
-{
-    are_plain(pkg.depends.as_slice()) && are_plain(pkg.constrains.as_slice())
-}
-
-/// Whether no specification has a star in its name.
-fn are_plain(specs: &[Spec]) -> bool
-    ensures { IsTrue result → All IsPlain specs.now }
-{
-    for spec in specs {
-        if spec.has_glob() {
-            return false;
-        }
-    }
-    true
+    parts.iter().all(|part| need_plainly(part.recs.as_slice()))
 }

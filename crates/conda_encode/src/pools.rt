@@ -14,7 +14,7 @@ fn add_all<'a>(recs: &mut Vec<&'a PkgRecord>, pool: &'a [PkgRecord]) -> Result<(
     Ok(())
 }
 
-/// The records of all pools, in their order.
+/// The records of all pools, in their order: the first has the variable 1.
 pub fn flat(alloc: Global, pools: &[NamePool]) -> Result<Vec<&PkgRecord>, AllocError>
     ensures { IfOk result (λ recs. map (λ r. r.now) recs.items ≡ records pools.now) }
 {
