@@ -1,0 +1,13 @@
+pub mod Naming
+pub mod Ranks
+pub mod Walk
+pub mod Completing
+pub mod Swapping
+pub mod Satisfying
+pub mod Sorted
+pub mod Choosing
+pub mod Asks
+pub mod Steps
+pub mod Progress
+pub mod Gathered
+pub mod Answering
