@@ -1,5 +1,9 @@
 pub mod NameOrder
 pub mod FoundLemmas
 pub mod ListLemmas
+pub mod GivenLemmas
+pub mod LogLemmas
+pub mod ReadLemmas
+pub mod RefuteLemmas
 pub mod RunLemmas
 pub mod ReportLemmas

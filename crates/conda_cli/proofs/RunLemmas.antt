@@ -13,8 +13,10 @@ use Rattle.conda_history.specs.declared.revision.History.{History}
 use Rattle.conda_cli.specs.declared.fault.Fault.{Fault}
 use Rattle.conda_cli.specs.declared.fault.Fault.TheVariants.{BadHistory, EnvFault, HostFault, Memory}
 use Rattle.conda_cli.specs.Faults.{status_of}
-use Rattle.conda_cli.specs.Answers.{Answer, AnswersWith, Devices, IsCause, IsFaultOf, IsGiven, IsGood, IsPut, IsQuiet, IsRefusal, IsReportAnswer, IsReportOf, IsReported, IsRevisionsOf, Reports, ReportsExactly, Told, history_in, history_limit, refusal}
-use Rattle.conda_cli.specs.Runs.{Does, IsUnread, Refuses, Runs, RunsReport, RunsVerb}
+use Rattle.conda_cli.specs.Answers.{Answer, AnswersWith, Devices, IsCause, IsFaultOf, IsGood, IsPut, IsQuiet, IsRefusal, IsReportAnswer, IsReportOf, IsReported, IsRevisionsOf, Reports, ReportsExactly, Told, history_in, history_limit, refusal}
+use Rattle.conda_cli.specs.Runs.{Does, IsUnread, Refuses, Runs, RunsRefute, RunsReport, RunsVerb}
+use Rattle.conda_cli.proofs.GivenLemmas.{given_whole}
+use Rattle.conda_cli.proofs.RefuteLemmas.{checks_all}
 use Rattle.conda_words.specs.declared.command.Command.{Command}
 use Rattle.conda_words.specs.declared.command.Verb.{Verb}
 use Rattle.conda_words.specs.declared.command.Verb.TheVariants as verbs
@@ -99,11 +101,6 @@ gives_report Is prefix c d x status before now gives is = (
 
 abbrev IsExact : (List Block → Answer → Type 0) → List ℕ → Option (List ℕ) → ℕ → OutState → OutState → Type 0
 IsExact Is prefix found status before now = (status ≡ 5) ⊎ ((answer : Answer) × IsReported Is prefix found answer × IsPut answer status before now)
-
-given_whole : (answer : Answer) (status : ℕ) (before now : OutState) → ¬ Rose before.faults now.faults → IsGiven answer status before now
-    → IsPut answer status before now
-given_whole answer status before now quiet given =
-    elim given as (λ _. IsPut answer status before now) [ inl whole ↦ whole | inr cut ↦ absurd (quiet cut.1) ]
 
 -- where no count rises, want of memory is the only fault
 memory_alone : (before now : Told) → IsQuiet before now → (fault : Fault) → IsFaultOf before.host now.host fault → status_of fault ≡ 5
@@ -255,6 +252,13 @@ module _ {H K I : Type 0} where
     unread = s.unread;
   }
 
+  starved_refute : (status : ℕ) (before now : Devices H K I) → Starved status before now → RunsRefute status before now
+  starved_refute status before now s = record {
+    checks = checks_all status before.heard now.heard before.told.output now.told.output (refusal Memory []) s.answers (inr (inr refl));
+    host = s.host;
+    clock = s.unread.clock;
+  }
+
   starved_refusal : (fault : Fault) (status : ℕ) (before now : Devices H K I) → Starved status before now → Refuses fault status before now
   starved_refusal fault status before now s = record {
     answers = (s.answers.0, inr (memory_said status before now s), s.answers.2);
@@ -266,6 +270,7 @@ module _ {H K I : Type 0} where
       → Starved status before now → RunsVerb verb prefixes status before now
   starved_verb verbs.List (prefix ∷ []) status before now s = starved_report (IsReportOf prefix) prefix status before now s
   starved_verb verbs.Revisions (prefix ∷ []) status before now s = starved_report IsRevisionsOf prefix status before now s
+  starved_verb verbs.Refute _ status before now s = starved_refute status before now s
   starved_verb _ _ status before now s = starved_refusal _ status before now s
 
   starved_does : (read : Read Command (ℕ × Why)) (status : ℕ) (before now : Devices H K I)

@@ -83,16 +83,25 @@ pub record Told : Type 0 where
   pub host : HostState
   pub output : OutState
 
--- the very host, clock and input of a run, and what is told
+-- what an input tells of itself: what is left, where it tells it, and its count of faults
+pub record InputState : Type 0 where
+  pub left : Option (List ℕ)
+  pub faults : ℕ
+
+abbrev pub input_state : {I : Type 0} → (I → Option (List ℕ)) → (I → ℕ) → I → InputState
+input_state left faults input = record { left = left input; faults = faults input }
+
+-- the very host, clock and input of a run, and what they and the output tell
 pub record Devices (H K I : Type 0) : Type 0 where
   pub host : H
   pub clock : K
   pub input : I
   pub told : Told
+  pub heard : InputState
 
-abbrev pub devices : {H K I O : Type 0} → (H → HostState) → (O → OutState) → H → K → I → O → Devices H K I
-devices of_host of_output host clock input output =
-    record { host = host; clock = clock; input = input; told = record { host = of_host host; output = of_output output } }
+abbrev pub devices : {H K I O : Type 0} → (H → HostState) → (I → InputState) → (O → OutState) → H → K → I → O → Devices H K I
+devices of_host of_input of_output host clock input output =
+    record { host = host; clock = clock; input = input; told = record { host = of_host host; output = of_output output }; heard = of_input input }
 
 -- ---- why
 

@@ -1,5 +1,6 @@
 pub mod Faults
 pub mod Report
 pub mod Answers
+pub mod Refuting
 pub mod Runs
 pub mod Start

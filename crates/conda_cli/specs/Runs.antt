@@ -12,6 +12,7 @@ use Rattle.conda_words.specs.Reading.{words_read}
 use Rattle.conda_cli.specs.declared.fault.Fault.{Fault}
 use Rattle.conda_cli.specs.declared.fault.Fault.TheVariants.{Usage}
 use Rattle.conda_cli.specs.Answers.{Answer, AnswersWith, Devices, IsRefusal, IsReportOf, IsRevisionsOf, Reports}
+use Rattle.conda_cli.specs.Refuting.{Checks}
 
 -- the words of some command line give it
 abbrev pub IsRead : Command → Type 0
@@ -50,11 +51,18 @@ module _ {H K I : Type 0} where
     pub reports : Reports Is prefix status before.told now.told
     pub unread : IsUnread before now
 
+  -- the log that the input has was checked, and no other device was touched
+  pub record RunsRefute (status : ℕ) (before now : Devices H K I) : Type 0 where
+    pub checks : Checks status before.heard now.heard before.told.output now.told.output
+    pub host : now.host ≡ before.host
+    pub clock : now.clock ≡ before.clock
+
   -- What a run of a command does, by its verb and its prefixes: each verb that is built has its case here. Every other
   -- command is refused.
   abbrev pub RunsVerb : Verb → List (List ℕ) → ℕ → Devices H K I → Devices H K I → Type 0
   RunsVerb verbs.List (prefix ∷ []) status before now = RunsReport (IsReportOf prefix) prefix status before now
   RunsVerb verbs.Revisions (prefix ∷ []) status before now = RunsReport IsRevisionsOf prefix status before now
+  RunsVerb verbs.Refute _ status before now = RunsRefute status before now
   RunsVerb _ _ status before now = Refuses (Usage 0 Unknown) status before now
 
   -- the words are read as a command, which runs, or as their first fault

@@ -35,6 +35,15 @@ pub enum Fault {
     LongHistory,
     /// The environment's history doesn't read: the number of the first bad line, from 1.
     BadHistory { line: u64 },
+    /// The log on the input is longer than 67,108,864 bytes.
+    LongInput,
+    /// The input isn't the text of a log: the number of the first bad line, from 1.
+    BadLog { line: u64 },
+    /// The log is no refutation: the number of the first step that doesn't follow, from 1, or of the
+    /// last if its clause isn't empty, or 0 if there is none.
+    NotRefuted { step: u64 },
+    /// The input failed.
+    ReadFault,
     /// A lane of the prefix failed.
     EnvFault,
     /// The host failed.
@@ -49,9 +58,10 @@ impl Fault {
         ensures { result ≡ status_of self }
     {
         match self {
-            Fault::NoEnv => 1,
+            Fault::NoEnv | Fault::NotRefuted { .. } => 1,
             Fault::Usage { .. } | Fault::LongHistory | Fault::BadHistory { .. } => 2,
-            Fault::EnvFault | Fault::HostFault => 3,
+            Fault::LongInput | Fault::BadLog { .. } => 2,
+            Fault::EnvFault | Fault::HostFault | Fault::ReadFault => 3,
             Fault::Memory => 5,
         }
     }
@@ -77,6 +87,18 @@ fn bad_history_line(alloc: Global, line: u64) -> Result<String, AllocError>
     format!(in alloc; "bad history: line {line}\n")
 }
 
+fn bad_log_line(alloc: Global, line: u64) -> Result<String, AllocError>
+    ensures { IfOk result (λ text. string_bytes text ≡ fault_text (Fault.BadLog line) []) }
+{
+    format!(in alloc; "bad log: line {line}\n")
+}
+
+fn not_refuted_line(alloc: Global, step: u64) -> Result<String, AllocError>
+    ensures { IfOk result (λ text. string_bytes text ≡ fault_text (Fault.NotRefuted step) []) }
+{
+    format!(in alloc; "not refuted: step {step}\n")
+}
+
 /// The printed line of a fault, with its newline. `NoEnv` names the prefix.
 pub fn fault_line(
     alloc: Global,
@@ -95,6 +117,10 @@ pub fn fault_line(
         },
         Fault::LongHistory => String::from_str(alloc, "too long: conda-meta/history 67108864\n"),
         Fault::BadHistory { line } => bad_history_line(alloc, line),
+        Fault::LongInput => String::from_str(alloc, "too long: input 67108864\n"),
+        Fault::BadLog { line } => bad_log_line(alloc, line),
+        Fault::NotRefuted { step } => not_refuted_line(alloc, step),
+        Fault::ReadFault => String::from_str(alloc, "read fault\n"),
         Fault::EnvFault => String::from_str(alloc, "environment fault\n"),
         Fault::HostFault => String::from_str(alloc, "host fault\n"),
         Fault::Memory => String::from_str(alloc, "out of memory\n"),

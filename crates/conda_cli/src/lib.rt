@@ -4,6 +4,7 @@
 mod fault;
 mod history_file;
 mod listing;
+mod refuting;
 mod report;
 mod runs;
 mod say;

@@ -2,18 +2,20 @@ ghost use Rattle.std.specs.Prelude.{◌≡◌, ◌≢◌, ℕ, List, Ok, false, 
 ghost use Rattle.conda_dev.specs.Hosts.{SameOfAll};
 ghost use Rattle.conda_words.specs.Reading.{words_read};
 ghost use Rattle.conda_cli.specs.Answers.{AnswersWith, IsRefusal, IsReportAnswer, IsReportOf, IsRevisionsOf, Reports};
-ghost use Rattle.conda_cli.specs.Answers.{answer_of, devices};
+ghost use Rattle.conda_cli.specs.Answers.{answer_of, devices, input_state};
+ghost use Rattle.conda_cli.specs.Refuting.{Checks};
 ghost use Rattle.conda_cli.specs.Runs.{IsRead, Runs, waits};
 
 use crate::fault::Fault;
 use crate::history_file::find_history;
 use crate::listing::{list_of, revisions_of};
+use crate::refuting::refute;
 use crate::say::{give, give_fault};
 use crate::words::{listed, revised, waits};
 use conda_dev::{Clock, Host, In, Out};
 use conda_history::grammar_laws;
 use conda_path::Prefix;
-use conda_words::{Command, Why, WordsErr, read_words};
+use conda_words::{Command, Verb, Why, WordsErr, read_words};
 use std::alloc::Global;
 use std::sync::Wait;
 use std::thread::Threads;
@@ -112,6 +114,24 @@ fn run_revisions<H: Host + Drop, O: Out>(
     Ended { status, host }
 }
 
+/// Checks the log that the input has, puts out what the checker says of it, and leaves the host as it
+/// is.
+fn run_refute<H: Host + Drop, I: In, O: Out>(
+    alloc: Global,
+    host: H,
+    input: &mut I,
+    out: &mut O,
+) -> Ended<H>
+    ensures checks { Checks result.status
+        (input_state I.left I.faults input.old) (input_state I.left I.faults input.new)
+        (O.state out.old) (O.state out.new) }
+    ensures host { result.host ≡ host }
+{
+    let report = refute(alloc, input);
+    let status = give(alloc, out, report, None);
+    Ended { status, host }
+}
+
 /// Runs one command that `read_words` gave and that doesn't run in several threads. It waits for
 /// nobody.
 pub fn run_one<H: Host + Drop, K: Clock, I: In, O: Out, R: Threads>(
@@ -127,14 +147,17 @@ pub fn run_one<H: Host + Drop, K: Clock, I: In, O: Out, R: Threads>(
     requires alone { waits command.now.verb ≡ false }
     requires lent { (prefix : List ℕ) → (H.state host).lent prefix ≡ false }
     ensures { Runs (Ok command.now) result.status
-        (devices H.state O.state host clock.old input.old out.old)
-        (devices H.state O.state result.host clock.new input.new out.new) }
+        (devices H.state (input_state I.left I.faults) O.state host clock.old input.old out.old)
+        (devices H.state (input_state I.left I.faults) O.state result.host clock.new input.new out.new) }
 {
     match listed(command) {
         Some(prefix) => run_list(alloc, prefix, host, out),
         None => match revised(command) {
             Some(prefix) => run_revisions(alloc, prefix, host, out),
-            None => refuse(alloc, UNBUILT, host, out),
+            None => match command.verb {
+                Verb::Refute => run_refute(alloc, host, input, out),
+                _ => refuse(alloc, UNBUILT, host, out),
+            },
         },
     }
 }
@@ -151,8 +174,8 @@ pub fn run<H: Host + Drop, K: Clock, I: In, O: Out, R: Threads + Wait>(
 ) -> Ended<H>
     requires { (prefix : List ℕ) → (H.state host).lent prefix ≡ false }
     ensures { Runs (words_read (map string_bytes words.now)) result.status
-        (devices H.state O.state host clock.old input.old out.old)
-        (devices H.state O.state result.host clock.new input.new out.new) }
+        (devices H.state (input_state I.left I.faults) O.state host clock.old input.old out.old)
+        (devices H.state (input_state I.left I.faults) O.state result.host clock.new input.new out.new) }
 {
     match read_words(alloc, words) {
         Ok(command) => {

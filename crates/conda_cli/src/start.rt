@@ -10,6 +10,7 @@ usage: conda [--root DIR] COMMAND ..
 
   list -p PREFIX                lists the packages of the environment at PREFIX
   list --revisions -p PREFIX    lists its revisions
+  refute                        checks the refutation that the input has
 
 --root DIR puts the folder DIR in front of every prefix.
 ";

@@ -9,7 +9,8 @@ use std::sync::Wait;
 use std::thread::Threads;
 
 /// The rows of conda_cli. `run WORDS|PLAN|PREFIX|HISTORY` runs the words over a machine on which the environment at
-/// PREFIX has this history; without the last two nothing is there. The answer is the status and what was printed.
+/// PREFIX has this history; without the last two nothing is there. `refute PLAN|INPUT` runs `refute` with this input. The
+/// answer is the status and what was printed.
 pub fn answer<R: Threads + Wait + Sync>(
     rt: &R,
     alloc: Global,
@@ -19,7 +20,7 @@ pub fn answer<R: Threads + Wait + Sync>(
     match (call, arguments) {
         ("run", [words, plan]) => {
             let prefixes = Vec::new(alloc);
-            Ok(Some(run_on(rt, alloc, words.as_str(), plan.as_str(), prefixes)?))
+            Ok(Some(run_on(rt, alloc, words.as_str(), plan.as_str(), prefixes, "")?))
         }
         ("run", [words, plan, prefix, history]) => {
             let Ok(prefix) = Prefix::read(alloc, prefix.as_str()) else {
@@ -27,7 +28,11 @@ pub fn answer<R: Threads + Wait + Sync>(
             };
             let mut prefixes = Vec::new(alloc);
             prefixes.push((prefix, with_history(alloc, history.as_str())?))?;
-            Ok(Some(run_on(rt, alloc, words.as_str(), plan.as_str(), prefixes)?))
+            Ok(Some(run_on(rt, alloc, words.as_str(), plan.as_str(), prefixes, "")?))
+        }
+        ("refute", [plan, input]) => {
+            let prefixes = Vec::new(alloc);
+            Ok(Some(run_on(rt, alloc, "refute", plan.as_str(), prefixes, input.as_str())?))
         }
         ("root", [words]) => Ok(Some(rooted(alloc, words.as_str())?)),
         ("asked", [words]) => Ok(Some(first_line(alloc, words.as_str())?)),
@@ -60,6 +65,7 @@ fn run_on<R: Threads + Wait + Sync>(
     words: &str,
     plan: &str,
     prefixes: Vec<(Prefix, Tree)>,
+    input: &str,
 ) -> Result<String, AllocError> {
     let words = words_of(alloc, words)?;
     let plan = plan_of(alloc, plan)?;
@@ -71,8 +77,9 @@ fn run_on<R: Threads + Wait + Sync>(
         Vec::new(alloc),
         plan.clone()?,
     )?;
-    let mut out = MemOut::make(alloc, plan)?;
-    let mut input = MemIn::make(alloc, Vec::new(alloc), Vec::new(alloc))?;
+    let mut out = MemOut::make(alloc, plan.clone()?)?;
+    let bytes = Vec::from_slice(alloc, input.as_bytes())?;
+    let mut input = MemIn::make(alloc, bytes, plan)?;
     let mut clock = FixedClock::make(1_714_557_600);
     let ended = run(
         rt,
