@@ -1,40 +1,30 @@
-//! The rows of the solver and its checker, of the index and of requests as clauses.
+//! The rows of the solver and its checker.
 #![tactic(auto)]
 
-mod clauses;
-mod index;
-mod packages;
 mod refute;
 mod sat;
-mod solution;
 
 use conda_base::Text;
-use rows_waiting::print_answers;
+use rows_text::{Table, print_rows};
 use std::alloc::{AllocError, Global};
 use std::io;
-use std::thread::Threads;
 
-fn answer<R: Threads + Sync>(
-    rt: &R,
-    alloc: Global,
-    call: &str,
-    arguments: &[Text],
-) -> Result<Option<String>, AllocError> {
-    if call.starts_with("index.") {
-        return index::answer(rt, alloc, call, arguments);
+struct Solver;
+
+impl Table for Solver {
+    fn answer(
+        &self,
+        alloc: Global,
+        call: &str,
+        arguments: &[Text],
+    ) -> Result<Option<String>, AllocError> {
+        if let Some(answer) = refute::answer(alloc, call, arguments)? {
+            return Ok(Some(answer));
+        }
+        sat::answer(alloc, call, arguments)
     }
-    if call.starts_with("encode.") {
-        return clauses::answer(rt, alloc, call, arguments);
-    }
-    if let Some(answer) = refute::answer(alloc, call, arguments)? {
-        return Ok(Some(answer));
-    }
-    sat::answer(alloc, call, arguments)
 }
 
 fn main(rt: HostRuntime) -> io::Result<()> {
-    print_answers(
-        &rt,
-        &|alloc, call, arguments| answer(&rt, alloc, call, arguments),
-    )
+    print_rows(&rt, &Solver)
 }

@@ -78,7 +78,7 @@ fn is_true(sides: &[bool], literal: i32) -> bool {
 }
 
 /// Whether each clause has a literal that is true.
-pub fn are_true(sides: &[bool], clauses: &[Clause]) -> bool {
+fn are_true(sides: &[bool], clauses: &[Clause]) -> bool {
     for clause in clauses {
         let mut found = false;
         for literal in clause.as_slice() {

@@ -11,7 +11,8 @@ use std::alloc::{AllocError, Global};
 // Records of a row stand between `;`: `channel/subdir/dist`, and behind it, each after `&`, `needs
 // SPEC`, `bars SPEC`, `number N` or `time N`. `aside` in place of a dist is an entry that is set
 // aside. Neighbours of one channel and subdir are one part. Virtual packages stand between `;` as
-// `name version build`, and asked specifications likewise, those that are pinned behind `pinned `.
+// `name version build`, and asked specifications likewise, those that are pinned behind `pinned `
+// and those that are fresh behind `fresh `.
 // Pools stand between `+`, each as its name, `=` and its records.
 
 /// The specification of a text, or None where it is none.
@@ -172,6 +173,21 @@ pub fn parts_of(alloc: Global, text: &str) -> Result<Option<Vec<Repodata>>, Allo
     Ok(Some(parts))
 }
 
+/// The records that a row gives.
+pub fn records_of(alloc: Global, text: &str) -> Result<Option<Vec<PkgRecord>>, AllocError> {
+    let Some(parts) = parts_of(alloc, text)? else {
+        return Ok(None);
+    };
+    let mut all = Vec::new(alloc);
+    for part in parts {
+        let Repodata { recs, .. } = part;
+        for pkg in recs.into_vec() {
+            all.push(pkg)?;
+        }
+    }
+    Ok(Some(all))
+}
+
 /// The virtual packages that a row gives.
 pub fn virtuals_of(alloc: Global, text: &str) -> Result<Option<Vec<Virtual>>, AllocError> {
     let mut virtuals = Vec::new(alloc);
@@ -196,7 +212,18 @@ pub fn virtuals_of(alloc: Global, text: &str) -> Result<Option<Vec<Virtual>>, Al
     Ok(Some(virtuals))
 }
 
-/// The items that a row gives. None of them is fresh.
+/// Whether a text that is asked for is pinned, whether it is fresh, and the specification's text.
+fn kind_of(text: &str) -> (AskKind, bool, &str) {
+    if let Some(spec) = text.strip_prefix("pinned ") {
+        return (AskKind::Pinned, false, spec);
+    }
+    match text.strip_prefix("fresh ") {
+        Some(spec) => (AskKind::Wanted, true, spec),
+        None => (AskKind::Wanted, false, text),
+    }
+}
+
+/// The items that a row gives.
 pub fn asked_of(alloc: Global, text: &str) -> Result<Option<Vec<Asked>>, AllocError> {
     let mut asked = Vec::new(alloc);
     for one in text.split(';') {
@@ -204,18 +231,11 @@ pub fn asked_of(alloc: Global, text: &str) -> Result<Option<Vec<Asked>>, AllocEr
         if one.is_empty() {
             continue;
         }
-        let (kind, text) = match one.strip_prefix("pinned ") {
-            Some(text) => (AskKind::Pinned, text),
-            None => (AskKind::Wanted, one),
-        };
+        let (kind, fresh, text) = kind_of(one);
         let Some(spec) = spec_of(alloc, text)? else {
             return Ok(None);
         };
-        asked.push(Asked {
-            spec,
-            fresh: false,
-            kind,
-        })?;
+        asked.push(Asked { spec, fresh, kind })?;
     }
     Ok(Some(asked))
 }

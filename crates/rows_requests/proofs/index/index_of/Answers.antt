@@ -1,6 +1,6 @@
 use Rattle.std.proofs.Common.{All, subst}
 use Rattle.conda_index.specs.Pools.{NamesPlainly, given}
-use Rattle.rows_solver.proofs.index.index_of.Goals as goal
+use Rattle.rows_requests.proofs.index.index_of.Goals as goal
 
 pub make-requires-clause-plain : goal.make-requires-clause-plain
 make-requires-clause-plain g c κs within =

@@ -1,9 +1,9 @@
 ghost use Rattle.std.specs.Prelude.{◌≡◌, ◌≤◌, IfOk, IfSome, length};
+ghost use Rattle.conda_encode.specs.Clauses.{encoded_of};
 ghost use Rattle.conda_encode.specs.Variables.{IsRequest, records};
 
 use crate::index::{index_of, shown, shown_record};
 use crate::packages::{asked_of, pools_of};
-use crate::sat::are_true;
 use crate::solution::is_solution;
 use conda_base::{Copied, Text};
 use conda_encode::{Asked, Encoded, Why, encode, is_request, set_of};
@@ -55,13 +55,14 @@ fn request(alloc: Global, pools: &str, asked: &str) -> Result<Option<String>, Al
 }
 
 /// The clauses of a row's request.
-fn encoded_of<R: Threads + Sync>(
+pub fn encoded_of<R: Threads + Sync>(
     rt: &R,
     alloc: Global,
     channels: &str,
     virtuals: &str,
     asked: &str,
 ) -> Result<Option<Encoded>, AllocError>
+    ensures exact { IfOk result (λ made. IfSome made (λ e. e ≡ encoded_of e.pools e.asked)) }
     ensures request { IfOk result (λ made. IfSome made (λ e. IsRequest e.pools e.asked)) }
     ensures vars { IfOk result (λ made. IfSome made (λ e. length (records e.pools) ≤ e.vars)) }
 {
@@ -83,6 +84,7 @@ fn as_clauses(
     pools: &[NamePool],
     asked: &[Asked],
 ) -> Result<Option<Encoded>, AllocError>
+    ensures exact { IfOk result (λ made. IfSome made (λ e. e ≡ encoded_of e.pools e.asked)) }
     ensures request { IfOk result (λ made. IfSome made (λ e. IsRequest e.pools e.asked)) }
     ensures vars { IfOk result (λ made. IfSome made (λ e. length (records e.pools) ≤ e.vars)) }
 {
@@ -264,6 +266,20 @@ fn solutions(alloc: Global, encoded: &Encoded) -> Result<Vec<Text>, AllocError> 
         }
     }
     Ok(sets)
+}
+
+/// Whether the literal is true on these sides, of which the first is that of the variable 1.
+fn is_true(sides: &[bool], literal: i32) -> bool {
+    let place = (literal.unsigned_abs() as usize).saturating_sub(1);
+    matches!(sides.get(place), Some(side) if *side == (literal > 0))
+}
+
+/// Whether each clause has a literal that is true.
+fn are_true(sides: &[bool], clauses: &[Clause]) -> bool {
+    clauses.iter().all(|clause| clause
+        .as_slice()
+        .iter()
+        .any(|literal| is_true(sides, *literal)))
 }
 
 /// The sets that the models of the clauses give.
