@@ -1,0 +1,11 @@
+pub mod Placing
+pub mod Content
+pub mod Linking
+pub mod Planning
+pub mod Trash
+pub mod Refusals
+pub mod Paths
+pub mod Entries
+pub mod Moves
+pub mod Counting
+pub mod Law
