@@ -1,5 +1,5 @@
 -- The goods of packages in one list, by dist and path: the same as in `Refusals`, as lists.
-use Rattle.std.specs.Prelude.{◌≡◌, ℕ, ◌⊎◌, List, [], ◌∷◌, map}
+use Rattle.std.specs.Prelude.{ℕ, ◌⊎◌, List, map}
 use Rattle.std.specs.List.{AllPairs, Contains, flat_map}
 use Rattle.conda_path.specs.declared.values.Good.{Good}
 use Rattle.conda_meta.specs.declared.linked.Linked.{Linked}

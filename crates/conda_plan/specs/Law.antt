@@ -1,5 +1,5 @@
 -- What the changes of a plan make of the tree of an environment: it shows one revision more. This project's own.
-use Rattle.std.specs.Prelude.{◌≡◌, ℕ, Bool, true, not, List, [], ◌∷◌, ◌++◌, filter, length, Option, Some, IsSome}
+use Rattle.std.specs.Prelude.{◌≡◌, ℕ, true, not, List, [], ◌∷◌, ◌++◌, filter, length, Option, Some, IsSome}
 use Rattle.std.specs.List.{AllPairs, Contains}
 use Rattle.std.specs.FinMap as map
 use Rattle.conda_path.specs.declared.values.Kind.{Kind}
@@ -77,7 +77,7 @@ LeadsToNext =
     → IsSeen number_of tree state now others altered trash number → IsSoundPlan kept now target others altered trash number revision changes
     → IsEdit keeps after tree changes → KeepsTexts keeps number revision
     → let next = next_state state revision stamp in
-      Shows number_of (with_history after next) next (unnamed changes others) (unnamed changes altered)
+    Shows number_of (with_history after next) next (unnamed changes others) (unnamed changes altered)
 
 -- the revisions with the one that is planned leave the target
 abbrev pub FoldsToTarget : Type 0

@@ -2,9 +2,9 @@
 -- Python. What is taken as another package is this project's own.
 use Rattle.std.specs.Prelude.{◌≡◌, ◌↔◌, ℕ, ◌⊎◌, if◌then◌else◌, List, map, codes, Option, None, Some}
 use Rattle.std.specs.Char.{to_ascii_lowercase}
-use Rattle.std.specs.List.{AllByRecursion, AllPairs, Contains}
+use Rattle.std.specs.List.{AllByRecursion, Contains}
 use Rattle.conda_base.specs.Texts.{Ascending, is_text}
-use Rattle.conda_path.specs.declared.values.Good.{Good}
+use Rattle.conda_path.specs.Dists.{IsDist}
 use Rattle.conda_paths.specs.Listings.{is_meta}
 use Rattle.conda_link.specs.Places.{python_parts}
 use Rattle.conda_record.specs.Records.{key_of}
@@ -22,6 +22,11 @@ use Rattle.conda_meta.specs.declared.revision.Revision.{Revision}
 pub record AreInOrder (packages : List Linked) : Type 0 where
   pub by_dist : Ascending (dists_of packages)
   pub outside : AllByRecursion (λ one. AllByRecursion (λ good. is_meta good.path ≡ false) one.goods) packages
+
+-- packages whose dists are dists, and whose goods ascend by path, as the types of both have it
+pub record AreMade (packages : List Linked) : Type 0 where
+  pub dists : AllByRecursion (λ one. IsDist one.rec.dist) packages
+  pub goods : AllByRecursion (λ one. Ascending (paths_of one.goods)) packages
 
 -- no path is that of goods of both
 abbrev pub ShareNoGood : Linked → Linked → Type 0
@@ -49,7 +54,7 @@ HasKey packages rec = (one : Linked) × Contains packages one × (key_of one.rec
 
 -- one of the packages has this key in the cache and these goods
 abbrev pub HasSame : List Linked → Linked → Type 0
-HasSame packages package = (one : Linked) × Contains packages one × (key_of one.rec ≡ key_of package.rec) × (one.goods ≡ package.goods)
+HasSame packages one = (other : Linked) × Contains packages other × (key_of other.rec ≡ key_of one.rec) × (other.goods ≡ one.goods)
 
 -- It is another one than is linked now, or it is Python code that fits every Python, and the target's Python is a new one.
 abbrev pub IsNewOne : List Linked → List Linked → Linked → Type 0

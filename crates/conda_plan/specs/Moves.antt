@@ -1,5 +1,5 @@
 -- What goes and comes at each path, as a map: the same as in `Planning`, for any goods and files. This project's own.
-use Rattle.std.specs.Prelude.{◌≡◌, ◌↔◌, ℕ, ◌⊎◌, Bool, true, false, IsTrue, List, ◌++◌, map, Option, None, Some, IfSome, MatchOption, option_copied}
+use Rattle.std.specs.Prelude.{◌≡◌, ◌↔◌, ℕ, ◌⊎◌, false, IsTrue, List, ◌++◌, map, Option, MatchOption, option_copied}
 use Rattle.std.specs.BTreeMap.{BTreeMap, get_by}
 use Rattle.std.specs.BTreeSet.{BTreeSet}
 use Rattle.std.specs.Cmp.Lexicographic.{slice_cmp}

@@ -1,5 +1,5 @@
 -- What a plan changes in a prefix: what goes, what comes, and in which lane. This project's own.
-use Rattle.std.specs.Prelude.{◌≡◌, ◌↔◌, ◌≤◌, ℕ, ◌⊎◌, Bool, not, IsTrue, List, [], ◌∷◌, ◌++◌, filter, length, map, slice_get, unwrap_or, Option, None, Some}
+use Rattle.std.specs.Prelude.{◌≡◌, ◌↔◌, ℕ, ◌⊎◌, not, IsTrue, List, [], ◌∷◌, ◌++◌, filter, length, map, slice_get, unwrap_or, Option, None, Some}
 use Rattle.std.specs.List.{AllByRecursion, Contains, flat_map, list_any}
 use Rattle.sha2.specs.Sha256.{sha256}
 use Rattle.conda_base.specs.Texts.{Ascending, is_text}
@@ -19,7 +19,7 @@ use Rattle.conda_meta.specs.Texts.{prefix_text, revision_text}
 use Rattle.conda_meta.specs.declared.folding.Folded.{Folded}
 use Rattle.conda_meta.specs.declared.linked.Linked.{Linked}
 use Rattle.conda_meta.specs.declared.revision.Revision.{Revision}
-use Rattle.conda_plan.specs.Linking.{IsRevisionTo}
+use Rattle.conda_plan.specs.Linking.{AreMade, IsRevisionTo}
 use Rattle.conda_plan.specs.Trash.{HasTrash}
 
 -- ---- what comes
@@ -132,4 +132,5 @@ pub record IsPlan (kept : Option Folded) (now target : Folded) (others altered t
   pub revision : IsRevisionTo kept now target revision
   pub changes : AreChangesTo now.linked others altered trash number revision changes
   pub free : NoConflict (parts_of number target revision) (unaltered others altered)
-  pub goods : AllByRecursion (λ one. Ascending (paths_of one.goods)) target.linked
+  pub now_made : AreMade now.linked
+  pub target_made : AreMade target.linked

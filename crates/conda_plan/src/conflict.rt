@@ -1,8 +1,5 @@
 ghost use Rattle.std.specs.Prelude.{◌≡◌, ◌++◌, IfErr, IfOk, OnOk, map, ◌⊎◌};
-ghost use Rattle.std.specs.List.{AllByRecursion};
-ghost use Rattle.conda_base.specs.Texts.{Ascending};
 ghost use Rattle.conda_goods.specs.Conflicts.{NoConflict, OwnersRepeatNoPath};
-ghost use Rattle.conda_goods.specs.Goods.{paths_of};
 ghost use Rattle.conda_plan.specs.Planning as planning;
 ghost use Rattle.conda_plan.specs.Refusals.{RefusesConflict};
 ghost use Rattle.conda_plan.specs.declared.error.PlanErr.{PlanErr};
@@ -16,10 +13,8 @@ use std::alloc::{AllocError, Global};
 
 /// The goods of a package, as its part.
 fn package_part(one: &Linked) -> Result<Owned, AllocError>
-    ensures part { IfOk result (λ part. part ≡ planning.package_part one.now) }
-    ensures ascending { Ascending (paths_of one.now.goods) }
+    ensures { IfOk result (λ part. part ≡ planning.package_part one.now) }
 {
-    let _ = one.goods.list();
     Ok(Owned {
         owner: Owner::Dist(one.rec.dist.copy()?),
         goods: one.goods.copy()?,
@@ -32,10 +27,8 @@ pub fn with_packages(
     parts: &[Owned],
     packages: &[Linked],
 ) -> Result<Vec<Owned>, AllocError>
-    ensures parts { IfOk result (λ all.
+    ensures { IfOk result (λ all.
         all.items ≡ parts.now ++ map planning.package_part packages.now) }
-    ensures ascending { OnOk result
-        (AllByRecursion (λ one. Ascending (paths_of one.goods)) packages.now) }
 {
     let mut all = copied_all(alloc, parts)?;
     for one in packages {
@@ -53,11 +46,13 @@ pub fn refuse_conflict(alloc: Global, parts: &[Owned], others: &[RelPath]) -> Re
 {
     match union(alloc, parts, others) {
         Ok(_) => Ok(()),
-        Err(GoodsErr::Clobber {
-            path,
-            first,
-            second,
-        }) => Err(PlanErr::Clobber {
+        Err(
+            GoodsErr::Clobber {
+                path,
+                first,
+                second,
+            },
+        ) => Err(PlanErr::Clobber {
             path,
             first,
             second,

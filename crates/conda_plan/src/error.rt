@@ -8,16 +8,30 @@ use std::alloc::{AllocError, AllocFailed};
 #[derive(Clone, Debug, PartialEq, Eq, Drop)]
 pub enum PlanErr {
     /// The package has Python code that fits every Python, and the environment has no Python X.Y.
-    NoPython { dist: Dist },
+    NoPython {
+        dist: Dist,
+    },
     /// The new place of the row's file is too long, or stood before. Entry points are counted
     /// behind the rows.
-    BadListing { row: u64, why: ListingWhy },
+    BadListing {
+        row: u64,
+        why: ListingWhy,
+    },
     /// The row is a soft link, and none can be made.
-    NoSoftLink { path: RelPath },
+    NoSoftLink {
+        path: RelPath,
+    },
     /// The placeholder in the row's file has room for `have` bytes, and the prefix has `need`.
-    PaddingShort { path: RelPath, have: u64, need: u64 },
+    PaddingShort {
+        path: RelPath,
+        have: u64,
+        need: u64,
+    },
     /// The package hasn't the good that it had there.
-    ContentChanged { dist: Dist, path: RelPath },
+    ContentChanged {
+        dist: Dist,
+        path: RelPath,
+    },
     /// Two owners have the path, or one has it and another one a path that it lies below.
     Clobber {
         path: RelPath,

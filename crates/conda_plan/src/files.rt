@@ -23,14 +23,20 @@ pub fn path_of(alloc: Global, text: &str) -> Result<RelPath, AllocError>
 pub fn prefix_path(alloc: Global, dist: &Dist) -> Result<RelPath, AllocError>
     ensures { IfOk result (λ path. path ≡ shows.prefix_path dist.now) }
 {
-    path_of(alloc, format!(in alloc; "conda-meta/{}.json", dist.text())?.as_str())
+    path_of(
+        alloc,
+        format!(in alloc; "conda-meta/{}.json", dist.text())?.as_str(),
+    )
 }
 
 /// The path of a revision's meta file.
 fn revision_path(alloc: Global, number: u32) -> Result<RelPath, AllocError>
     ensures { IfOk result (λ path. path ≡ shows.revision_path number) }
 {
-    path_of(alloc, format!(in alloc; "conda-meta/revisions/{number}.json")?.as_str())
+    path_of(
+        alloc,
+        format!(in alloc; "conda-meta/revisions/{number}.json")?.as_str(),
+    )
 }
 
 /// What a file with this text has to show.
@@ -83,11 +89,7 @@ fn revision_part(alloc: Global, number: u32, revision: &Revision) -> Result<Owne
 }
 
 /// The new meta files: of each package that the revision links, and of the revision.
-pub fn file_parts(
-    alloc: Global,
-    number: u32,
-    revision: &Revision,
-) -> Result<Vec<Owned>, AllocError>
+pub fn file_parts(alloc: Global, number: u32, revision: &Revision) -> Result<Vec<Owned>, AllocError>
     ensures { IfOk result (λ parts. parts.items ≡ planning.new_files number revision.now) }
 {
     let mut parts = Vec::new(alloc);

@@ -3,10 +3,10 @@
 #![tactic(auto)]
 
 mod conflict;
-mod filling;
 mod different;
 mod error;
 mod files;
+mod filling;
 mod laws;
 mod linking;
 mod moves;
@@ -14,18 +14,18 @@ mod package;
 mod paths;
 mod places;
 mod placing;
-mod rows;
-mod planning;
 mod planned;
+mod planning;
 mod python;
+mod rows;
 mod shares;
 mod trash;
 
-pub use filling::content;
 pub use error::PlanErr;
+pub use filling::content;
 pub use laws::{lane_laws, package_laws, plan_laws};
 pub use package::Package;
 pub use placing::{Origin, Placing};
-pub use rows::placings;
-pub use planning::plan;
 pub use planned::Planned;
+pub use planning::plan;
+pub use rows::placings;

@@ -1,11 +1,11 @@
-ghost use Rattle.std.specs.Prelude.{◌≡◌, ◌↔◌, ℕ, IfOk, IsTrue, List, OnOk, option_copied};
+ghost use Rattle.std.specs.Prelude.{◌≡◌, ◌↔◌, ℕ, IfOk, IsTrue, List, option_copied};
 ghost use Rattle.std.specs.List.{Contains};
 ghost use Rattle.conda_base.specs.Texts.{Ascending};
 ghost use Rattle.conda_record.specs.Records.{key_of};
 ghost use Rattle.conda_record.specs.declared.noarch.Noarch.{Noarch};
 ghost use Rattle.conda_meta.specs.Folds.{held, last_of};
 ghost use Rattle.conda_meta.specs.Reading.{dists_of};
-ghost use Rattle.conda_plan.specs.Linking.{HasNewPython, IsRevisionTo, IsToLink};
+ghost use Rattle.conda_plan.specs.Linking.{AreMade, HasNewPython, IsRevisionTo, IsToLink};
 
 use crate::python::has_new_python;
 use conda_base::{Copied, Rows};
@@ -14,6 +14,16 @@ use conda_path::Dist;
 use conda_record::{Noarch, PkgRecord};
 use std::alloc::{AllocError, Global};
 use std::collections::BTreeMap;
+
+/// Dists are dists, and goods ascend, in whatever packages there are.
+pub fn know_packages(packages: &[Linked])
+    ensures { AreMade packages.now }
+{
+    for one in packages {
+        let _ = one.rec.dist.text();
+        let _ = one.goods.list();
+    }
+}
 
 /// Packages by dist.
 type ByDist<'a> = BTreeMap<&'a str, &'a Linked>;
@@ -76,7 +86,12 @@ fn linked(
     let new_python = has_new_python(now, target);
     let mut linked = Rows::new(alloc);
     for one in target {
-        if is_to_link(kept, have.get(one.rec.dist.text()).copied(), one, new_python) {
+        if is_to_link(
+            kept,
+            have.get(one.rec.dist.text()).copied(),
+            one,
+            new_python,
+        ) {
             linked.push(one.copy()?)?;
         }
     }

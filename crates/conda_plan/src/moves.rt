@@ -94,11 +94,14 @@ fn add_going<'a>(
     for good in one.goods.list() {
         let path = &good.path;
         let old = is_left(others, altered, path.as_str());
-        let _ = moves.insert(path.as_str(), Move {
-            path,
-            old,
-            new: None,
-        })?;
+        let _ = moves.insert(
+            path.as_str(),
+            Move {
+                path,
+                old,
+                new: None,
+            },
+        )?;
     }
     Ok(())
 }
@@ -127,11 +130,14 @@ pub fn add_files<'a>(moves: &mut Moves<'a>, paths: &'a [RelPath]) -> Result<(), 
         → OnOk result (AreMoves others altered goods paths.now [] moves.new) }
 {
     for path in paths {
-        let _ = moves.insert(path.as_str(), Move {
-            path,
-            old: true,
-            new: None,
-        })?;
+        let _ = moves.insert(
+            path.as_str(),
+            Move {
+                path,
+                old: true,
+                new: None,
+            },
+        )?;
     }
     Ok(())
 }

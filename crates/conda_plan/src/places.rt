@@ -1,4 +1,4 @@
-ghost use Rattle.std.specs.Prelude.{◌≡◌, ◌<◌, ◌≤◌, IfOk, IfSome, List, MatchOption, length, option_copied, ℕ};
+ghost use Rattle.std.specs.Prelude.{◌≡◌, ◌<◌, ◌≤◌, IfOk, IfSome, MatchOption, length, option_copied};
 ghost use Rattle.conda_device.specs.declared.chan.Shown.{Shown};
 ghost use Rattle.conda_link.specs.Places.{IsPython};
 ghost use Rattle.conda_plan.specs.Placing as placing;

@@ -1,11 +1,10 @@
 ghost use Rattle.std.specs.Prelude.{◌≡◌, ◌≤◌, ◌⊎◌, IfErr, IfOk, IfSome, OnOk, map, option_copied};
-ghost use Rattle.std.specs.List.{AllByRecursion, AllPairs, Contains};
+ghost use Rattle.std.specs.List.{AllPairs, Contains};
 ghost use Rattle.conda_base.specs.Texts.{Ascending};
 ghost use Rattle.conda_goods.specs.Conflicts.{NoConflict};
-ghost use Rattle.conda_goods.specs.Goods.{paths_of};
 ghost use Rattle.conda_meta.specs.Reading.{dists_of};
 ghost use Rattle.conda_meta.specs.declared.linked.Linked.{Linked};
-ghost use Rattle.conda_plan.specs.Linking.{AreInOrder, ShareNoGood};
+ghost use Rattle.conda_plan.specs.Linking.{AreInOrder, AreMade, ShareNoGood};
 ghost use Rattle.conda_plan.specs.Planning as planning;
 ghost use Rattle.conda_plan.specs.Planning.{AreChangesTo, AreShares, IsPlan, new_files, parts_of};
 ghost use Rattle.conda_plan.specs.Refusals.{IsAsKept, RefusesConflict, RefusesPlan};
@@ -15,7 +14,7 @@ use crate::conflict::{refuse_conflict, with_packages};
 use crate::different::refuse_changed;
 use crate::error::PlanErr;
 use crate::files::file_parts;
-use crate::linking::revision_to;
+use crate::linking::{know_packages, revision_to};
 use crate::moves::{add_files, add_packages, add_parts, file_paths, going, moves_of};
 use crate::paths::{set_of, unaltered};
 use crate::planned::Planned;
@@ -46,7 +45,9 @@ fn changes_to(
 ) -> Result<Vec<Change>, AllocError>
     requires files { files.now ≡ new_files number revision.now }
     requires now { AreInOrder now.now }
+    requires now_made { AreMade now.now }
     requires linked { AreInOrder revision.now.linked }
+    requires linked_made { AreMade revision.now.linked }
     ensures changes { IfOk result (λ changes. AreChangesTo now.now standing.others.now
         standing.altered.now standing.trash.now number revision.now changes.items) }
     ensures by_path { IfOk result (λ changes.
@@ -74,13 +75,12 @@ fn refuse_clobber(
 ) -> Result<(), PlanErr>
     requires files { files.now ≡ new_files number revision.now }
     requires target { AreInOrder target.now.linked }
+    requires made { AreMade target.now.linked }
     requires linked { (one : Linked) → Contains revision.now.linked one
         → Contains target.now.linked one }
     requires by_dist { Ascending (dists_of revision.now.linked) }
     ensures free { OnOk result (NoConflict (parts_of number target.now revision.now)
         (planning.unaltered standing.others.now standing.altered.now)) }
-    ensures goods { OnOk result
-        (AllByRecursion (λ one. Ascending (paths_of one.goods)) target.now.linked) }
     ensures conflict { IfErr result (λ e. (e ≡ PlanErr.Memory)
         ⊎ RefusesConflict (parts_of number target.now revision.now)
         (planning.unaltered standing.others.now standing.altered.now) e) }
@@ -134,6 +134,8 @@ pub fn plan(
     ensures refused { IfErr result (RefusesPlan (option_copied kept.entry) now.now target.now
         others.now altered.now number) }
 {
+    know_packages(now.linked.as_slice());
+    know_packages(target.linked.as_slice());
     let standing = Standing {
         others,
         altered,

@@ -34,7 +34,7 @@ fn put(
 ) -> Result<(), PlanErr>
     requires { HasPaths places.old (places_of made.old.items) }
     ensures made { OnOk result (IfSome place (λ path. made.new.items
-        ≡ made.old.items ++ record { path = path; kind = kind; «from» = from } ∷ [])) }
+        ≡ made.old.items ++ record { path = path; kind = kind; from = from } ∷ [])) }
     ensures new { OnOk result (MatchOption place ⊥ (λ path. ¬ Contains (places_of made.old.items) path)) }
     ensures places { OnOk result (HasPaths places.new (places_of made.new.items)) }
     ensures err { IfErr result (λ e. (e ≡ PlanErr.Memory)
@@ -111,7 +111,9 @@ fn row_placings(
     let mut made = Vec::new(alloc);
     let shown = pkg.shown.as_slice();
     for (at, row) in pkg.listing.rows.as_slice().iter().enumerate() {
-        put_row(alloc, &mut made, places, python, abilities, at, row, &shown[at])?;
+        put_row(
+            alloc, &mut made, places, python, abilities, at, row, &shown[at],
+        )?;
     }
     Ok(made)
 }

@@ -42,7 +42,10 @@ fn rest_of(path: &RelPath) -> u64
 fn trash_path(alloc: Global, number: u32, k: u64) -> Result<RelPath, AllocError>
     ensures { IfOk result (λ path. path ≡ lanes.trash_path number k) }
 {
-    path_of(alloc, format!(in alloc; "conda-meta/.trash/{number}.{k}")?.as_str())
+    path_of(
+        alloc,
+        format!(in alloc; "conda-meta/.trash/{number}.{k}")?.as_str(),
+    )
 }
 
 /// A free number, its path in the trash, and the next number with its rest.
@@ -95,9 +98,9 @@ fn next_trash(
 {
     let rest = rest_of(path);
     let start = nexts.get(&rest).copied().unwrap_or(rest);
-    let free = first_free(alloc, left, number, start)?;
-    let _ = nexts.insert(rest, free.next)?;
-    Ok(free.path)
+    let Free { path, next } = first_free(alloc, left, number, start)?;
+    let _ = nexts.insert(rest, next)?;
+    Ok(path)
 }
 
 /// What comes, of its own.
@@ -112,8 +115,12 @@ fn copied_good(good: Option<&Good>) -> Result<Option<Good>, AllocError>
 
 /// The change that a move is, with a path in the trash.
 fn change_of(one: &Move<'_>, trash: RelPath) -> Result<Change, AllocError>
-    ensures { IfOk result (λ change. change ≡ record { path = one.now.path.now;
-        old = one.now.old; new = option_copied one.now.new; trash = trash }) }
+    ensures { IfOk result (λ change. change ≡ record {
+      path = one.now.path.now;
+      old = one.now.old;
+      new = option_copied one.now.new;
+      trash = trash;
+    }) }
 {
     Ok(Change {
         path: one.path.copy()?,
