@@ -1,5 +1,5 @@
 -- What a plan changes in a prefix: what goes, what comes, and in which lane. This project's own.
-use Rattle.std.specs.Prelude.{◌≡◌, ◌↔◌, ℕ, ◌⊎◌, not, IsTrue, List, [], ◌∷◌, ◌++◌, filter, length, map, slice_get, unwrap_or, Option, None, Some}
+use Rattle.std.specs.Prelude.{◌≡◌, ◌↔◌, ℕ, ◌⊎◌, false, not, IsTrue, List, [], ◌∷◌, ◌++◌, filter, length, map, slice_get, unwrap_or, Option, None, Some}
 use Rattle.std.specs.List.{AllByRecursion, Contains, flat_map, list_any}
 use Rattle.sha2.specs.Sha256.{sha256}
 use Rattle.conda_base.specs.Texts.{Ascending, is_text}
@@ -10,11 +10,11 @@ use Rattle.conda_goods.specs.Conflicts.{NoConflict}
 use Rattle.conda_goods.specs.Goods.{paths_of}
 use Rattle.conda_goods.specs.declared.owned.Owned.{Owned}
 use Rattle.conda_goods.specs.declared.owner.Owner.{Owner}
-use Rattle.conda_lane.specs.Changes.{AreApart, names}
+use Rattle.conda_lane.specs.Changes.{AreApart, is_named, names}
 use Rattle.conda_lane.specs.Shares.{all_changes}
 use Rattle.conda_lane.specs.declared.change.Change.{Change}
 use Rattle.conda_meta.specs.Reading.{dists_of}
-use Rattle.conda_meta.specs.Shows.{prefix_path, revision_path}
+use Rattle.conda_meta.specs.Shows.{history_path, pending_path, prefix_path, revision_path}
 use Rattle.conda_meta.specs.Texts.{prefix_text, revision_text}
 use Rattle.conda_meta.specs.declared.folding.Folded.{Folded}
 use Rattle.conda_meta.specs.declared.linked.Linked.{Linked}
@@ -105,6 +105,11 @@ pub record AreChangesTo (now : List Linked) (others altered trash : List (List �
   pub each : AllByRecursion (IsPlanned now revision others altered number) changes
   pub trash : AllByRecursion (HasTrash trash number changes) changes
   pub apart : AreApart changes
+
+-- no change names the history or the pending file
+pub record SpareHistory (changes : List Change) : Type 0 where
+  pub history : is_named changes history_path ≡ false
+  pub pending : is_named changes pending_path ≡ false
 
 -- ---- the lanes
 

@@ -6,7 +6,8 @@ ghost use Rattle.conda_meta.specs.Reading.{dists_of};
 ghost use Rattle.conda_meta.specs.declared.linked.Linked.{Linked};
 ghost use Rattle.conda_plan.specs.Linking.{AreInOrder, AreMade, ShareNoGood};
 ghost use Rattle.conda_plan.specs.Planning as planning;
-ghost use Rattle.conda_plan.specs.Planning.{AreChangesTo, AreShares, IsPlan, new_files, parts_of};
+ghost use Rattle.conda_plan.specs.Planning.{AreChangesTo, AreShares, IsPlan, SpareHistory};
+ghost use Rattle.conda_plan.specs.Planning.{new_files, parts_of};
 ghost use Rattle.conda_plan.specs.Refusals.{IsAsKept, RefusesConflict, RefusesPlan};
 ghost use Rattle.conda_plan.specs.declared.error.PlanErr.{PlanErr};
 
@@ -104,7 +105,8 @@ fn refuse_clobber(
 /// paths that belong to no package, among them those of the `altered` ones at which a node stands. A
 /// change's path in the trash is `conda-meta/.trash/<number>.<k>` with the least k that leaves the
 /// sum of its path's bytes when both are divided by 720,720, and that neither `trash` nor a change
-/// of a lesser path has. So both paths lie in one lane, for each count of lanes up to 16.
+/// of a lesser path has. So both paths lie in one lane, for each count of lanes up to 16. No change
+/// names the history or the pending file.
 ///
 /// `ContentChanged` has the first dist and path at which the packages of the target haven't the
 /// goods that were kept, if any were. Else `Clobber` comes as `union` gives it for the goods of the
@@ -130,6 +132,8 @@ pub fn plan(
         others.now altered.now trash.now number planned.revision
         (planning.changes_of planned.changes)) }
     ensures lanes { IfOk result (λ planned. AreShares lanes planned.changes) }
+    ensures spared { IfOk result (λ planned.
+        SpareHistory (planning.changes_of planned.changes)) }
     ensures kept { OnOk result (IfSome (option_copied kept.entry) (IsAsKept target.now)) }
     ensures refused { IfErr result (RefusesPlan (option_copied kept.entry) now.now target.now
         others.now altered.now number) }
