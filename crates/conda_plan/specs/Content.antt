@@ -18,8 +18,8 @@ use Rattle.conda_plan.specs.declared.placing.Placing.{Placing}
 
 -- the row at this place, and what the channel shows there
 pub record IsRowAt (pkg : Package) (at : ℕ) (row : Row) (shown : Shown) : Type 0 where
-  pub row : slice_get pkg.listing.rows at ≡ Some row
-  pub shown : slice_get pkg.shown at ≡ Some (Some shown)
+  pub is_row : slice_get pkg.listing.rows at ≡ Some row
+  pub is_shown : slice_get pkg.shown at ≡ Some (Some shown)
 
 -- it is the place of a row that isn't a folder's, or of an entry point
 abbrev pub HasOrigin : Package → Origin → Type 0

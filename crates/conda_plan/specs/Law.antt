@@ -24,14 +24,14 @@ pub record IsSeen (number_of : List ℕ → Option ℕ) (tree : Tree) (state : S
   pub shows : Shows number_of tree state others altered
   pub fold : IsFold state.revisions now
   pub count : length state.revisions ≡ number
-  pub trash : (path : List ℕ) → IsTrashed path → IsSome (at tree path) → Contains trash path
+  pub known : (path : List ℕ) → IsTrashed path → IsSome (at tree path) → Contains trash path
 
 -- a plan between packages in order, of which no two that are linked now have one path, and those that aren't to link are carried over
 pub record IsSoundPlan (kept : Option Folded) (now target : Folded) (others altered trash : List (List ℕ)) (number : ℕ) (revision : Revision) (changes : List Change) : Type 0 where
   pub plan : IsPlan kept now target others altered trash number revision changes
-  pub now : AreInOrder now.linked
+  pub now_in_order : AreInOrder now.linked
   pub apart : AllPairs ShareNoGood now.linked
-  pub target : AreInOrder target.linked
+  pub target_in_order : AreInOrder target.linked
   pub carried : AreCarried kept now.linked target.linked
 
 -- ---- afterwards
@@ -52,7 +52,7 @@ with_history tree state = map.insert tree history_path (text_node (state_history
 -- the texts of the new meta files are kept for their paths
 pub record KeepsTexts (kept : Tree) (number : ℕ) (revision : Revision) : Type 0 where
   pub packages : (one : Linked) → Contains revision.linked one → at kept (prefix_path one.rec.dist) ≡ Some (text_node (prefix_text one))
-  pub revision : at kept (revision_path number) ≡ Some (text_node (revision_text revision))
+  pub own : at kept (revision_path number) ≡ Some (text_node (revision_text revision))
 
 -- the paths that no change names
 abbrev pub unnamed : List Change → List (List ℕ) → List (List ℕ)

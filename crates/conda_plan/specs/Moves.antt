@@ -45,7 +45,7 @@ IsLeft others altered path = (is_in altered path ≡ false) ⊎ IsTrue (is_in ot
 
 -- The move of a path, where the goods and files at these paths go and these goods come.
 pub record IsMove (others altered : Texts) (goods files : List (List ℕ)) (comes : List Good) (path : List ℕ) (one : Move) : Type 0 where
-  pub path : one.path.now ≡ path
+  pub own : one.path.now ≡ path
   pub old : IsTrue one.old
       ↔ ((Contains goods path × (is_in altered path ≡ false)) ⊎ Contains files path ⊎ IsTrue (is_in others path))
   pub new : IsComing comes path (option_copied one.new)

@@ -103,7 +103,7 @@ pub record AreChangesTo (now : List Linked) (others altered trash : List (List �
       IsChanged changes path
       ↔ (IsGoingGood now revision path ⊎ IsGoingFile now revision path ⊎ Contains (paths_of (coming number revision)) path)
   pub each : AllByRecursion (IsPlanned now revision others altered number) changes
-  pub trash : AllByRecursion (HasTrash trash number changes) changes
+  pub trashed : AllByRecursion (HasTrash trash number changes) changes
   pub apart : AreApart changes
 
 -- no change names the history or the pending file
@@ -134,8 +134,8 @@ pub record AreShares (lanes : ℕ) (shares : List (List Change)) : Type 0 where
 
 -- What is planned leads from `now` to `target`: the revision, the changes that it makes, and no conflict among what is there afterwards.
 pub record IsPlan (kept : Option Folded) (now target : Folded) (others altered trash : List (List ℕ)) (number : ℕ) (revision : Revision) (changes : List Change) : Type 0 where
-  pub revision : IsRevisionTo kept now target revision
-  pub changes : AreChangesTo now.linked others altered trash number revision changes
+  pub leads : IsRevisionTo kept now target revision
+  pub makes : AreChangesTo now.linked others altered trash number revision changes
   pub free : NoConflict (parts_of number target revision) (unaltered others altered)
   pub now_made : AreMade now.linked
   pub target_made : AreMade target.linked
