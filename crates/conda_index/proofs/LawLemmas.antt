@@ -1,12 +1,12 @@
 -- What the first channel of a name, its pool and an entry without a star mean.
-use Rattle.std.specs.Prelude.{◌≡◌, ◌↔◌, ℕ, ◌==◌, ◌||◌, ◌&&◌, Bool, true, false, cond, List, [], ◌∷◌, ◌++◌, All, Contains, Option, None, Some, find, filter, nat_eq}
-use Rattle.std.proofs.Common.{refl, ap, sym, ◌∙◌, subst}
+use Rattle.std.specs.Prelude.{◌≡◌, ◌↔◌, ℕ, ◌||◌, ◌&&◌, Bool, true, false, cond, List, [], ◌∷◌, ◌++◌, Contains, Option, None, Some, find}
+use Rattle.std.proofs.Common.{refl, ap, sym, ◌∙◌}
 use Rattle.std.proofs.lemmas.Cmp.{nat_list_eq_equiv}
 use Rattle.std.proofs.lemmas.List.Elements.{All-from_recursion}
 use Rattle.std.specs.List.{AllByRecursion, list_any}
 use Rattle.std.specs.Option.{option_map}
 use Rattle.conda_base.specs.Signs.{star}
-use Rattle.conda_base.specs.Texts.{IsFreeOf, is_byte, is_text}
+use Rattle.conda_base.specs.Texts.{IsFreeOf, is_byte}
 use Rattle.conda_spec.specs.Parts.{Parts}
 use Rattle.conda_record.specs.Rules.{HasNoGlob, IsWellFormed}
 use Rattle.conda_record.specs.declared.pkg_record.PkgRecord.{PkgRecord}

@@ -1,11 +1,11 @@
 -- Pools of different names as a request.
-use Rattle.std.specs.Prelude.{◌≡◌, ◌≢◌, ◌↔◌, ℕ, ◌+◌, ◌<◌, ◌≤◌, ◌^◌, zero, suc, Bool, true, false, cond, List, [], ◌∷◌, ◌++◌, All, AllPairs, Contains, filter, map, length, nat_eq, slice_index_or}
-use Rattle.std.proofs.Common.{refl, ap, sym, ◌∙◌, subst, inl, inr, ◌⊎◌, arith, get_or, true≢false, zero-add}
+use Rattle.std.specs.Prelude.{◌≡◌, ◌≢◌, ℕ, ◌+◌, ◌<◌, ◌≤◌, ◌^◌, zero, suc, Bool, true, false, cond, List, [], ◌∷◌, AllPairs, Contains, length, nat_eq}
+use Rattle.std.proofs.Common.{refl, ap, sym, ◌∙◌, subst, arith, get_or, true≢false, zero-add}
 use Rattle.std.proofs.lemmas.Cmp.{nat_list_cmp_total, tied_itself}
 use Rattle.std.proofs.lemmas.List.{length-append}
 use Rattle.std.proofs.lemmas.List.Elements.{All-contains}
 use Rattle.std.specs.Cmp.Lexicographic.{pointwise, slice_cmp, texts_ties}
-use Rattle.std.specs.List.{AllByRecursion, IsDistinct, flat_map}
+use Rattle.std.specs.List.{AllByRecursion, IsDistinct}
 use Rattle.std.specs.List.Sorted.{IsSorted}
 use Rattle.std.specs.Ordering.{is_eq, is_lt, nat_cmp, ordering_reverse}
 use Rattle.std.specs.declared.cmp.Ordering.{Ordering}
@@ -20,7 +20,7 @@ use Rattle.conda_index.specs.Names.{is_named, name_of}
 use Rattle.conda_index.specs.Pools.{IsIndex, NamesPlainly, pool_of}
 use Rattle.conda_index.specs.Reached.{names_of}
 use Rattle.conda_index.proofs.GatherLemmas.{same_text}
-use Rattle.conda_index.proofs.ReachLemmas.{first_in, in_cases, in_map, later_in, none_in, of_filter, of_flat_map}
+use Rattle.conda_index.proofs.ReachLemmas.{first_in, in_map, later_in, of_filter, of_flat_map}
 
 -- ---- at most one of different names is that of a record
 

@@ -1,4 +1,4 @@
-use Rattle.conda_index.proofs.OrderLemmas.{VersionLaws, index_total, plain_total}
+use Rattle.conda_index.proofs.OrderLemmas.{index_total, plain_total}
 use Rattle.conda_index.proofs.laws.order_laws.Goals as goal
 
 pub returns-clause-plain : goal.returns-clause-plain

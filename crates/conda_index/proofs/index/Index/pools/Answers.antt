@@ -1,4 +1,4 @@
-use Rattle.std.proofs.Common.{◌≡◌, ◌∙◌, All, Contains, List, ap, get_or, length, subst, sym}
+use Rattle.std.proofs.Common.{◌≡◌, List, get_or, subst, sym}
 use Rattle.std.proofs.lemmas.List.Elements.{All-contains, Contains-get_or}
 use Rattle.std.specs.List.Sorted.{IsSorted}
 use Rattle.conda_record.specs.declared.pkg_record.PkgRecord.{PkgRecord}
