@@ -1,0 +1,5 @@
+pub mod Asked
+pub mod Channels
+pub mod Reading
+pub mod Virtuals
+pub mod Sources
