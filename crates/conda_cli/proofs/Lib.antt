@@ -7,3 +7,5 @@ pub mod ReadLemmas
 pub mod RefuteLemmas
 pub mod RunLemmas
 pub mod ReportLemmas
+pub mod SourceLemmas
+pub mod TextFaults

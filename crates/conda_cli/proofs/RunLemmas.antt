@@ -10,11 +10,14 @@ use Rattle.conda_history.specs.Blocks.{IsBadAt, IsHistory}
 use Rattle.conda_history.specs.Reading.{history_read}
 use Rattle.conda_history.specs.declared.revision.Block.{Block}
 use Rattle.conda_history.specs.declared.revision.History.{History}
+use Rattle.conda_record.specs.declared.pkg_record.PkgRecord.{PkgRecord}
 use Rattle.conda_cli.specs.declared.fault.Fault.{Fault}
 use Rattle.conda_cli.specs.declared.fault.Fault.TheVariants.{BadHistory, EnvFault, HostFault, Memory}
 use Rattle.conda_cli.specs.Faults.{status_of}
 use Rattle.conda_cli.specs.Answers.{Answer, AnswersWith, Devices, IsCause, IsFaultOf, IsGood, IsPut, IsQuiet, IsRefusal, IsReportAnswer, IsReportOf, IsReported, IsRevisionsOf, Reports, ReportsExactly, Told, history_in, history_limit, refusal}
-use Rattle.conda_cli.specs.Runs.{Does, IsUnread, Refuses, Runs, RunsRefute, RunsReport, RunsVerb}
+use Rattle.conda_cli.specs.Runs.{Does, IsUnread, Refuses, Runs, RunsRefute, RunsReport, RunsSourced, RunsVerb}
+use Rattle.conda_cli.specs.Sourcing.{IsSearched, IsSolved, Sources, search_read, solve_read, sources_of}
+use Rattle.conda_cli.proofs.SourceLemmas.{MayFail}
 use Rattle.conda_cli.proofs.GivenLemmas.{given_whole}
 use Rattle.conda_cli.proofs.RefuteLemmas.{checks_all}
 use Rattle.conda_words.specs.declared.command.Command.{Command}
@@ -252,6 +255,21 @@ module _ {H K I : Type 0} where
     unread = s.unread;
   }
 
+  starved_sourced : {A : Type 0} (Is : A → List PkgRecord → Answer → Type 0) (asked : Read A Fault) (from : Sources) (status : ℕ)
+      (before now : Devices H K I) → Starved status before now → RunsSourced Is asked from status before now
+  starved_sourced Is asked from status before now s = record {
+    sourced = record {
+      answers = (s.answers.0, inr (inr (Memory, tt, memory_said status before now s)), s.answers.2);
+      exactly = λ told quiet found are. inr
+          (put_five status before now s (given_whole s.answers.0 status before.told.output now.told.output quiet.output s.answers.2));
+      faults = λ three. elim s.answers.2 as (λ _. MayFail from before.told now.told) [
+        | inl put ↦ let five = put_five status before now s put in absurd (omega arith)
+        | inr cut ↦ inr (inr (inl cut.1))
+      ];
+    };
+    unread = s.unread;
+  }
+
   starved_refute : (status : ℕ) (before now : Devices H K I) → Starved status before now → RunsRefute status before now
   starved_refute status before now s = record {
     checks = checks_all status before.heard now.heard before.told.output now.told.output (refusal Memory []) s.answers (inr (inr refl));
@@ -266,16 +284,19 @@ module _ {H K I : Type 0} where
     unread = s.unread;
   }
 
-  starved_verb : (verb : Verb) (prefixes : List (List ℕ)) (status : ℕ) (before now : Devices H K I)
-      → Starved status before now → RunsVerb verb prefixes status before now
-  starved_verb verbs.List (prefix ∷ []) status before now s = starved_report (IsReportOf prefix) prefix status before now s
-  starved_verb verbs.Revisions (prefix ∷ []) status before now s = starved_report IsRevisionsOf prefix status before now s
-  starved_verb verbs.Refute _ status before now s = starved_refute status before now s
-  starved_verb _ _ status before now s = starved_refusal _ status before now s
+  starved_verb : (verb : Verb) (prefixes words : List (List ℕ)) (from : Sources) (status : ℕ) (before now : Devices H K I)
+      → Starved status before now → RunsVerb verb prefixes words from status before now
+  starved_verb verbs.List (prefix ∷ []) _ _ status before now s = starved_report (IsReportOf prefix) prefix status before now s
+  starved_verb verbs.Revisions (prefix ∷ []) _ _ status before now s = starved_report IsRevisionsOf prefix status before now s
+  starved_verb verbs.Search _ (word ∷ []) from status before now s = starved_sourced IsSearched (search_read word) from status before now s
+  starved_verb verbs.Solve _ words from status before now s = starved_sourced IsSolved (solve_read words) from status before now s
+  starved_verb verbs.Refute _ _ _ status before now s = starved_refute status before now s
+  starved_verb _ _ _ _ status before now s = starved_refusal _ status before now s
 
   starved_does : (read : Read Command (ℕ × Why)) (status : ℕ) (before now : Devices H K I)
       → Starved status before now → Does read status before now
-  starved_does (Ok command) status before now s = starved_verb command.verb command.prefixes status before now s
+  starved_does (Ok command) status before now s =
+      starved_verb command.verb command.prefixes command.words (sources_of command) status before now s
   starved_does (Err fault) status before now s = starved_refusal _ status before now s
 
   -- whatever the words are read as
@@ -285,4 +306,5 @@ module _ {H K I : Type 0} where
     does = starved_does read status before now s;
     trees = λ prefix. ap (λ h. h.told prefix) s.told;
     lent = λ prefix. ap (λ h. h.lent prefix) s.told;
+    files = ap (λ h. h.files) s.told;
   }

@@ -149,6 +149,7 @@ IsRefusal fault answer = (answer ≡ refusal fault []) ⊎ (answer ≡ refusal M
 pub record IsQuiet (before now : Told) : Type 0 where
   pub host : ¬ Rose before.host.faults now.host.faults
   pub lanes : ¬ Rose before.host.lane_faults now.host.lane_faults
+  pub chans : ¬ Rose before.host.chan_faults now.host.chan_faults
   pub output : ¬ Rose before.output.faults now.output.faults
 
 -- an answer of this kind was put; or there was no memory

@@ -3,4 +3,5 @@ pub mod Report
 pub mod Answers
 pub mod Refuting
 pub mod Runs
+pub mod Sourcing
 pub mod Start

@@ -28,6 +28,7 @@ fn read_first<H: Host>(
     ensures faults { IfErr result (IsFaultOf (H.state host.old) (H.state host.new)) }
     ensures trees { SameOfAll (H.state host.old).told (H.state host.new).told }
     ensures lent { SameOfAll (H.state host.old).lent (H.state host.new).lent }
+    ensures files { (H.state host.new).files ≡ (H.state host.old).files }
 {
     let mut lanes = match host.lanes(alloc, prefix, "", 1) {
         Ok(lanes) => lanes,
@@ -68,6 +69,7 @@ pub fn find_history<H: Host>(
 
     ensures trees { SameOfAll (H.state host.old).told (H.state host.new).told }
     ensures lent { SameOfAll (H.state host.old).lent (H.state host.new).lent }
+    ensures files { (H.state host.new).files ≡ (H.state host.old).files }
 {
     let path = match RelPath::read(alloc, "conda-meta/history") {
         Ok(path) => path,

@@ -8,6 +8,7 @@ mod refuting;
 mod report;
 mod runs;
 mod say;
+mod sourcing;
 mod start;
 mod words;
 

@@ -5,16 +5,22 @@ ghost use Rattle.conda_cli.specs.Answers.{AnswersWith, IsRefusal, IsReportAnswer
 ghost use Rattle.conda_cli.specs.Answers.{answer_of, devices, input_state};
 ghost use Rattle.conda_cli.specs.Refuting.{Checks};
 ghost use Rattle.conda_cli.specs.Runs.{IsRead, Runs, waits};
+ghost use Rattle.conda_cli.specs.Sourcing.{IsSearched, IsSolved, Sourced, search_read, solve_read};
+ghost use Rattle.conda_cli.specs.Sourcing.{sources_of};
+ghost use Rattle.conda_sources.specs.Virtuals.{IsGiven};
+ghost use Rattle.std.specs.List.{All};
 
 use crate::fault::Fault;
 use crate::history_file::find_history;
 use crate::listing::{list_of, revisions_of};
 use crate::refuting::refute;
 use crate::say::{give, give_fault};
-use crate::words::{listed, revised, waits};
+use crate::sourcing::{search, solve};
+use crate::words::{listed, revised, searched, waits};
 use conda_dev::{Clock, Host, In, Out};
 use conda_history::grammar_laws;
 use conda_path::Prefix;
+use conda_sources::virtual_laws;
 use conda_words::{Command, Verb, Why, WordsErr, read_words};
 use std::alloc::Global;
 use std::sync::Wait;
@@ -34,6 +40,7 @@ fn list<H: Host>(alloc: Global, host: &mut H, prefix: &Prefix) -> Result<String,
         (H.state host.new) (answer_of result prefix.now) }
     ensures trees { SameOfAll (H.state host.old).told (H.state host.new).told }
     ensures lent { SameOfAll (H.state host.old).lent (H.state host.new).lent }
+    ensures files { (H.state host.new).files ≡ (H.state host.old).files }
 {
     match find_history(alloc, host, prefix) {
         Ok(found) => list_of(alloc, prefix, found),
@@ -48,6 +55,7 @@ fn revisions<H: Host>(alloc: Global, host: &mut H, prefix: &Prefix) -> Result<St
         (H.state host.new) (answer_of result prefix.now) }
     ensures trees { SameOfAll (H.state host.old).told (H.state host.new).told }
     ensures lent { SameOfAll (H.state host.old).lent (H.state host.new).lent }
+    ensures files { (H.state host.new).files ≡ (H.state host.old).files }
 {
     match find_history(alloc, host, prefix) {
         Ok(found) => revisions_of(alloc, prefix, found),
@@ -85,6 +93,7 @@ fn run_list<H: Host + Drop, O: Out>(
         (record { host = H.state result.host; output = O.state out.new }) }
     ensures trees { SameOfAll (H.state host).told (H.state result.host).told }
     ensures lent { SameOfAll (H.state host).lent (H.state result.host).lent }
+    ensures files { (H.state result.host).files ≡ (H.state host).files }
 {
     grammar_laws();
     let mut host = host;
@@ -106,11 +115,58 @@ fn run_revisions<H: Host + Drop, O: Out>(
         (record { host = H.state result.host; output = O.state out.new }) }
     ensures trees { SameOfAll (H.state host).told (H.state result.host).told }
     ensures lent { SameOfAll (H.state host).lent (H.state result.host).lent }
+    ensures files { (H.state result.host).files ≡ (H.state host).files }
 {
     grammar_laws();
     let mut host = host;
     let report = revisions(alloc, &mut host, prefix);
     let status = give(alloc, out, report, Some(prefix));
+    Ended { status, host }
+}
+
+/// Looks for the packages that a word names in a command's sources, and puts out what was found.
+fn run_search<H: Host + Drop, O: Out, R: Threads + Sync>(
+    rt: &R,
+    alloc: Global,
+    command: &Command,
+    word: &str,
+    host: H,
+    out: &mut O,
+) -> Ended<H>
+    requires { All IsGiven command.now.virtuals }
+    ensures sourced { Sourced IsSearched (search_read word.now) (sources_of command.now) result.status
+        (record { host = H.state host; output = O.state out.old })
+        (record { host = H.state result.host; output = O.state out.new }) }
+    ensures trees { SameOfAll (H.state host).told (H.state result.host).told }
+    ensures lent { SameOfAll (H.state host).lent (H.state result.host).lent }
+    ensures files { (H.state result.host).files ≡ (H.state host).files }
+{
+    let mut host = host;
+    let report = search(rt, alloc, &mut host, command, word);
+    let status = give(alloc, out, report, None);
+    Ended { status, host }
+}
+
+/// Chooses the packages for a command's words from its sources, and puts the choice out.
+fn run_solve<H: Host + Drop, O: Out, R: Threads + Sync>(
+    rt: &R,
+    alloc: Global,
+    command: &Command,
+    host: H,
+    out: &mut O,
+) -> Ended<H>
+    requires { All IsGiven command.now.virtuals }
+    ensures sourced { Sourced IsSolved (solve_read command.now.words) (sources_of command.now)
+        result.status
+        (record { host = H.state host; output = O.state out.old })
+        (record { host = H.state result.host; output = O.state out.new }) }
+    ensures trees { SameOfAll (H.state host).told (H.state result.host).told }
+    ensures lent { SameOfAll (H.state host).lent (H.state result.host).lent }
+    ensures files { (H.state result.host).files ≡ (H.state host).files }
+{
+    let mut host = host;
+    let report = solve(rt, alloc, &mut host, command);
+    let status = give(alloc, out, report, None);
     Ended { status, host }
 }
 
@@ -134,7 +190,7 @@ fn run_refute<H: Host + Drop, I: In, O: Out>(
 
 /// Runs one command that `read_words` gave and that doesn't run in several threads. It waits for
 /// nobody.
-pub fn run_one<H: Host + Drop, K: Clock, I: In, O: Out, R: Threads>(
+pub fn run_one<H: Host + Drop, K: Clock, I: In, O: Out, R: Threads + Sync>(
     rt: &R,
     alloc: Global,
     command: &Command,
@@ -150,20 +206,25 @@ pub fn run_one<H: Host + Drop, K: Clock, I: In, O: Out, R: Threads>(
         (devices H.state (input_state I.left I.faults) O.state host clock.old input.old out.old)
         (devices H.state (input_state I.left I.faults) O.state result.host clock.new input.new out.new) }
 {
-    match listed(command) {
-        Some(prefix) => run_list(alloc, prefix, host, out),
-        None => match revised(command) {
-            Some(prefix) => run_revisions(alloc, prefix, host, out),
-            None => match command.verb {
-                Verb::Refute => run_refute(alloc, host, input, out),
-                _ => refuse(alloc, UNBUILT, host, out),
-            },
-        },
+    virtual_laws();
+    if let Some(prefix) = listed(command) {
+        return run_list(alloc, prefix, host, out);
+    }
+    if let Some(prefix) = revised(command) {
+        return run_revisions(alloc, prefix, host, out);
+    }
+    if let Some(word) = searched(command) {
+        return run_search(rt, alloc, command, word, host, out);
+    }
+    match command.verb {
+        Verb::Solve => run_solve(rt, alloc, command, host, out),
+        Verb::Refute => run_refute(alloc, host, input, out),
+        _ => refuse(alloc, UNBUILT, host, out),
     }
 }
 
 /// Reads the words of a command and runs it.
-pub fn run<H: Host + Drop, K: Clock, I: In, O: Out, R: Threads + Wait>(
+pub fn run<H: Host + Drop, K: Clock, I: In, O: Out, R: Threads + Wait + Sync>(
     rt: &R,
     alloc: Global,
     words: &[String],

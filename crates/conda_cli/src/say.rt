@@ -37,6 +37,7 @@ pub fn give<O: Out>(
 {
     match report {
         Ok(text) => put(out, 0, text.as_str()),
+        Err(Fault::Unsat { report }) => put(out, 1, report.as_str()),
         Err(fault) => match fault_line(alloc, &fault, prefix) {
             Ok(line) => put(out, fault.status(), line.as_str()),
             Err(_) => put(out, Fault::Memory.status(), "out of memory\n"),

@@ -10,9 +10,19 @@ usage: conda [--root DIR] COMMAND ..
 
   list -p PREFIX                lists the packages of the environment at PREFIX
   list --revisions -p PREFIX    lists its revisions
+  search [OPTIONS] SPEC         lists the packages that SPEC names
+  solve [OPTIONS] SPEC ..       chooses the packages that an environment would have
   refute                        checks the refutation that the input has
 
 --root DIR puts the folder DIR in front of every prefix.
+
+The options of search and solve:
+
+  -c NAME                       takes the packages of the channel NAME; of several channels
+                                the first that has a package of a name hides the others
+  --channels DIR                the folder of the channels, or else the folder channels
+  --virtual NAME=VERSION        takes the machine to have the virtual package NAME
+  --jobs N, --pkgs DIR          change nothing here
 ";
 
 /// The text that `--help` or `--version` as the first word asks for. It takes no memory.

@@ -1,5 +1,5 @@
 ghost use Rattle.std.specs.Prelude.{◌≡◌, MatchOption, None, Some};
-ghost use Rattle.conda_cli.specs.Runs.{listed, revised, waits};
+ghost use Rattle.conda_cli.specs.Runs.{listed, revised, searched, waits};
 
 use conda_path::Prefix;
 use conda_words::{Command, Verb};
@@ -23,6 +23,17 @@ pub fn revised(command: &Command) -> Option<&Prefix>
 {
     match (command.verb, command.prefixes.as_slice()) {
         (Verb::Revisions, [prefix]) => Some(prefix),
+        _ => None,
+    }
+}
+
+/// The word that a command searches for, where it is `search SPEC`. It takes no memory.
+pub fn searched(command: &Command) -> Option<&str>
+    ensures { MatchOption result (searched command.now.verb command.now.words ≡ None)
+        (λ word. searched command.now.verb command.now.words ≡ Some word.now) }
+{
+    match (command.verb, command.words.as_slice()) {
+        (Verb::Search, [word]) => Some(word.as_str()),
         _ => None,
     }
 }

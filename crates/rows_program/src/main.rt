@@ -2,6 +2,7 @@
 #![tactic(auto)]
 
 mod cli;
+mod sourced;
 
 use crate::cli::answer;
 use rows_waiting::print_answers;
