@@ -104,7 +104,7 @@ struct Printed {
     text: String,
 }
 
-fn printed<R: Threads + Wait + Sync>(
+fn run_words<R: Threads + Wait + Sync>(
     rt: &R,
     alloc: Global,
     words: &str,
@@ -143,7 +143,7 @@ fn run_on<R: Threads + Wait + Sync>(
     machine: Machine,
     input: &str,
 ) -> Result<String, AllocError> {
-    let Printed { status, text } = printed(rt, alloc, words, plan, machine, input)?;
+    let Printed { status, text } = run_words(rt, alloc, words, plan, machine, input)?;
     let text = shown(alloc, text.as_str())?;
     if text.is_empty() {
         return format!(in alloc; "{status}");
@@ -161,7 +161,7 @@ fn checked<R: Threads + Wait + Sync>(
     line: usize,
     machine: Machine,
 ) -> Result<String, AllocError> {
-    let report = printed(rt, alloc, words, "", machine, "")?;
+    let report = run_words(rt, alloc, words, "", machine, "")?;
     let Some((_, log)) = report.text.split_once("refutation:\n") else {
         return String::from_str(alloc, "no refutation");
     };
