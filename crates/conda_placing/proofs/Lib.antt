@@ -1,0 +1,5 @@
+pub mod ScriptLemmas
+pub mod PutLemmas
+pub mod RowLemmas
+pub mod ContentLemmas
+pub mod PackageLemmas

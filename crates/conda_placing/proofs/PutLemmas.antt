@@ -1,0 +1,96 @@
+-- Placings put behind one another, each at a path that none before has.
+use Rattle.std.specs.Prelude.{◌≡◌, ◌≢◌, ℕ, ◌≤◌, ◌<◌, zero, suc, Bool, true, false, not, ◌||◌, cond, List, [], ◌∷◌, ◌++◌, length, map}
+use Rattle.std.proofs.Common.{refl, ap, sym, ◌∙◌, subst, inl, inr, ◌⊎◌, arith, get_or}
+use Rattle.std.proofs.lemmas.Bool.{or_cases, true≢false}
+use Rattle.std.proofs.lemmas.Bool.Decides.{Decides-eqb}
+use Rattle.std.proofs.lemmas.List.{get_or_default, map-append}
+use Rattle.std.proofs.lemmas.List.Folds.{list_any-append, list_any-from_Any}
+use Rattle.std.proofs.lemmas.List.Quantifiers.{all_pairs_push}
+use Rattle.std.proofs.lemmas.Slice.Eq.{slice_eq-Decides}
+use Rattle.std.specs.Bool.{Decides}
+use Rattle.std.specs.BTreeSet.{BTreeSet, Updates, contains}
+use Rattle.std.specs.Cmp.Lexicographic.{nat_list_eq_equiv, slice_cmp, texts_ties}
+use Rattle.std.specs.List.{AllByRecursion, Contains, list_any}
+use Rattle.std.specs.Ordering.{nat_cmp}
+use Rattle.conda_base.specs.Texts.{is_text}
+use Rattle.conda_device.specs.declared.lane.Abilities.{Abilities}
+use Rattle.conda_paths.specs.Listings.{HasPaths}
+use Rattle.conda_placing.specs.Placing.{AreAllowed, IsBadPlace, IsNoLink, places_of}
+use Rattle.conda_placing.specs.declared.placing.Placing.{Placing}
+
+same_text : (a b : List ℕ) → Decides (is_text a b) (a ≡ b)
+same_text a b = slice_eq-Decides Decides-eqb a b (is_text a b) refl
+
+-- ---- paths that stand among others
+
+pub any_contains : (paths : List (List ℕ)) (path : List ℕ) → list_any (is_text path) paths ≡ true → Contains paths path
+any_contains [] path e = absurd (true≢false (sym e))
+any_contains (p ∷ paths) path e = by (any_contains paths path) (or_cases (is_text path p) (list_any (is_text path) paths) e)
+  where
+    by : (list_any (is_text path) paths ≡ true → Contains paths path) → (is_text path p ≡ true) ⊎ (list_any (is_text path) paths ≡ true)
+        → Contains (p ∷ paths) path
+    by rest (inl is) = (0, omega arith, sym ((same_text path p).0 is))
+    by rest (inr is) = let r = rest is in (suc r.0, omega (arith, r.1), r.2)
+
+contains_any : (paths : List (List ℕ)) (path : List ℕ) → Contains paths path → list_any (is_text path) paths ≡ true
+contains_any paths path has = list_any-from_Any (is_text path) paths (has.0, path, has.1, has.2, nat_list_eq_equiv.refl path)
+
+pub not_among : (paths : List (List ℕ)) (path : List ℕ) → not (list_any (is_text path) paths) ≡ true → ¬ Contains paths path
+not_among paths path new has = true≢false (sym (ap not (contains_any paths path has)) ∙ new)
+
+was_among : (b : Bool) → not b ≡ false → b ≡ true
+was_among true e = refl
+was_among false e = cc e
+
+pub among_them : (paths : List (List ℕ)) (path : List ℕ) → not (list_any (is_text path) paths) ≡ false → Contains paths path
+among_them paths path old = any_contains paths path (was_among (list_any (is_text path) paths) old)
+
+-- ---- the set of their paths
+
+among : (b x y : Bool) → x ≡ y → cond b true x ≡ (y || (b || false))
+among true x true same = refl
+among true x false same = refl
+among false x true same = same
+among false x false same = same
+
+-- a set of paths with one more
+pub one_path : (old new : BTreeSet (List ℕ)) (key : List ℕ) (before : List (List ℕ)) → HasPaths old before
+    → Updates (slice_cmp nat_cmp) old new key true → HasPaths new (before ++ key ∷ [])
+one_path old new key before has updates = λ path.
+    updates.0 path
+    ∙ ap (λ b. cond b true (contains (slice_cmp nat_cmp) old path)) (sym (texts_ties key path) ∙ nat_list_eq_equiv.symm key path)
+    ∙ among (is_text path key) (contains (slice_cmp nat_cmp) old path) (list_any (is_text path) before) (has path)
+    ∙ sym (list_any-append (is_text path) before (key ∷ []))
+
+-- the paths of placings with one more
+pub places_push : (placings : List Placing) (placing : Placing) → places_of (placings ++ placing ∷ []) ≡ places_of placings ++ placing.path ∷ []
+places_push placings placing = map-append (λ one. one.path) placings (placing ∷ [])
+
+-- ---- placings that are allowed
+
+pub all_push : {X : Type 0} (P : X → Type 0) (xs : List X) (x : X) → AllByRecursion P xs → P x → AllByRecursion P (xs ++ x ∷ [])
+all_push P [] x all here = (here, tt)
+all_push P (y ∷ xs) x all here = (all.0, all_push P xs x all.1 here)
+
+pub none_allowed : (abilities : Abilities) → AreAllowed abilities []
+none_allowed abilities = record { short = tt; apart = λ i j d p q. absurd (omega (arith, q)); links = tt }
+
+other_paths : (paths : List (List ℕ)) (path : List ℕ) → (¬ Contains paths path) → (k : ℕ) (d : List ℕ) → k < length paths → get_or paths k d ≢ path
+other_paths paths path new k d within e = new (k, within, get_or_default paths k path d within ∙ e)
+
+-- one more placing is allowed that fits behind the others
+pub allowed_push : (abilities : Abilities) (placings : List Placing) (placing : Placing) → AreAllowed abilities placings
+    → length placing.path ≤ 1024 → (¬ Contains (places_of placings) placing.path) → (¬ IsNoLink abilities placing)
+    → AreAllowed abilities (placings ++ placing ∷ [])
+allowed_push abilities placings placing are short new link = record {
+  short = all_push (λ one. length one.path ≤ 1024) placings placing are.short short;
+  apart = subst (λ paths. (i j : ℕ) (d : List ℕ) → i < j → j < length paths → get_or paths i d ≢ get_or paths j d) (sym (places_push placings placing))
+      (all_pairs_push (λ a b. a ≢ b) (places_of placings) placing.path are.apart (other_paths (places_of placings) placing.path new));
+  links = all_push (λ one. ¬ IsNoLink abilities one) placings placing are.links link;
+}
+
+-- a place that is short and that none has can be had
+pub fits : (placings : List Placing) (placing : Placing) → length placing.path ≤ 1024 → (¬ Contains (places_of placings) placing.path)
+    → ¬ IsBadPlace placings placing
+fits placings placing short new (inl long) = omega (arith, short, long)
+fits placings placing short new (inr has) = new has
