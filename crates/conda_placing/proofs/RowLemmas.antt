@@ -1,8 +1,9 @@
 -- What rows and entry points give, one behind another, and the first of it that is refused.
-use Rattle.std.specs.Prelude.{◌≡◌, ◌≢◌, ℕ, ◌+◌, ◌<◌, suc, Bool, true, false, if◌then◌else◌, List, [], ◌∷◌, ◌++◌, codes, length, Option, None, Some, slice_get}
+use Rattle.std.specs.Prelude.{◌≡◌, ◌≢◌, ℕ, ◌+◌, ◌≤◌, ◌<◌, zero, suc, Bool, true, false, if◌then◌else◌, List, [], ◌∷◌, ◌++◌, codes, length, Option, None, Some, slice_get}
 use Rattle.std.proofs.Common.{refl, ap, sym, ◌∙◌, subst, inl, inr, ◌⊎◌, arith, get_or, drop}
 use Rattle.std.proofs.lemmas.List.{append-nil, append_assoc, drop_more}
 use Rattle.std.proofs.lemmas.Option.{same_Some}
+use Rattle.std.specs.BTreeSet.{BTreeSet}
 use Rattle.std.specs.List.{AllByRecursion}
 use Rattle.std.specs.Option.{option_map_or}
 use Rattle.conda_base.specs.Signs.{slash}
@@ -10,13 +11,14 @@ use Rattle.conda_base.specs.Texts.{cut_first, is_text}
 use Rattle.conda_path.specs.declared.values.Kind.{Kind}
 use Rattle.conda_device.specs.declared.chan.Shown.{Shown}
 use Rattle.conda_device.specs.declared.lane.Abilities.{Abilities}
-use Rattle.conda_paths.specs.Listings.{is_meta}
+use Rattle.conda_paths.specs.Listings.{HasPaths, is_meta}
 use Rattle.conda_paths.specs.declared.error.ListingWhy.{ListingWhy}
 use Rattle.conda_paths.specs.declared.row.Row.{Row}
 use Rattle.conda_paths.specs.declared.row.RowKind.{RowKind}
 use Rattle.conda_link.specs.Places.{placed, placed_part}
 use Rattle.conda_link.specs.declared.info.EntryPoint.{EntryPoint}
-use Rattle.conda_placing.specs.Placing.{AreAllowed, AreShown, IsBadPlace, IsListed, IsNoLink, IsRowPath, as_able, place_of, placing_as, row_kind, row_number, row_placing, row_placings, script_place, script_placings}
+use Rattle.conda_placing.specs.Content.{HasOrigin}
+use Rattle.conda_placing.specs.Placing.{AreAllowed, AreShown, IsBadPlace, IsListed, IsNoLink, IsReadPackage, IsRowPath, as_able, entries_for, place_of, placing_as, placings_for, row_kind, row_number, row_placing, row_placings, places_of, script_place, script_placings}
 use Rattle.conda_placing.specs.Refusals.{HasBadPlace, HasNoLink, IsBadBehind, IsLinkBehind, Refuses, RefusesRow, RefusesScript}
 use Rattle.conda_placing.specs.declared.error.PlacingErr.{PlacingErr}
 use Rattle.conda_placing.specs.declared.package.Package.{Package}
@@ -54,6 +56,12 @@ scripts_more exec made at entries entry within is =
     let are : drop at entries ≡ entry ∷ drop (at + 1) entries = drop_more entries at entry within ∙ ap (λ x. x ∷ drop (at + 1) entries) (sym is) in
     ap (λ es. made ++ script_placings exec at es) are
     ∙ sym (append_assoc made (script_placings exec at (entry ∷ [])) (script_placings exec (at + 1) (drop (at + 1) entries)))
+
+-- what was put so far, where the rest is left
+pub record IsPutSoFar (abilities : Abilities) (all made rest : List Placing) (places : BTreeSet (List ℕ)) : Type 0 where
+  pub are : made ++ rest ≡ all
+  pub paths : HasPaths places (places_of made)
+  pub allowed : AreAllowed abilities made
 
 -- ---- refusals
 
@@ -182,9 +190,9 @@ place_outside (Some python) path out = cut_outside (cut_first slash path) python
 abbrev pub IsOutside : Placing → Type 0
 IsOutside placing = is_meta placing.path ≡ false
 
-outside_append : (xs ys : List Placing) → AllByRecursion IsOutside xs → AllByRecursion IsOutside ys → AllByRecursion IsOutside (xs ++ ys)
-outside_append [] ys a b = b
-outside_append (x ∷ xs) ys a b = (a.0, outside_append xs ys a.1 b)
+all_append : {X : Type 0} (P : X → Type 0) (xs ys : List X) → AllByRecursion P xs → AllByRecursion P ys → AllByRecursion P (xs ++ ys)
+all_append P [] ys a b = b
+all_append P (x ∷ xs) ys a b = (a.0, all_append P xs ys a.1 b)
 
 one_outside : (o : Option Kind) (at : ℕ) (path : List ℕ) (able : Kind → Kind) → is_meta path ≡ false
     → AllByRecursion IsOutside (placing_as o (λ kind. record { path = path; kind = able kind; from = Origin.Row at }))
@@ -196,7 +204,7 @@ rows_outside : (python : Option (List ℕ)) (exec : Bool) (at : ℕ) (rows : Lis
 rows_outside python exec at [] shown all = tt
 rows_outside python exec at (row ∷ rows) [] all = tt
 rows_outside python exec at (row ∷ rows) (one ∷ shown) all =
-    outside_append (row_placing python exec at row one) (row_placings python exec (at + 1) rows shown)
+    all_append IsOutside (row_placing python exec at row one) (row_placings python exec (at + 1) rows shown)
     (one_outside (row_kind row.kind one) at (place_of python row.path) (as_able exec) (place_outside python row.path all.0.outside))
     (rows_outside python exec (at + 1) rows shown all.1)
 
@@ -204,8 +212,57 @@ scripts_outside : (exec : Bool) (at : ℕ) (entries : List EntryPoint) → AllBy
 scripts_outside exec at [] = tt
 scripts_outside exec at (entry ∷ entries) = (refl, scripts_outside exec (at + 1) entries)
 
--- what rows and entry points give is outside
-pub all_outside : (python : Option (List ℕ)) (exec : Bool) (rows : List Row) (shown : List (Option Shown)) (entries : List EntryPoint) → AllByRecursion IsListed rows
-    → AllByRecursion IsOutside (row_placings python exec 0 rows shown ++ script_placings exec 0 entries)
-all_outside python exec rows shown entries all =
-    outside_append (row_placings python exec 0 rows shown) (script_placings exec 0 entries) (rows_outside python exec 0 rows shown all) (scripts_outside exec 0 entries)
+-- what a package gives is outside
+pub outside_for : (python : Option (List ℕ)) (pkg : Package) (abilities : Abilities) → IsReadPackage pkg
+    → AllByRecursion IsOutside (placings_for python pkg abilities)
+outside_for python pkg abilities read =
+    all_append IsOutside (row_placings python abilities.exec 0 pkg.listing.rows pkg.shown) (script_placings abilities.exec 0 (entries_for python pkg))
+    (rows_outside python abilities.exec 0 pkg.listing.rows pkg.shown read.rows) (scripts_outside abilities.exec 0 (entries_for python pkg))
+
+-- ---- where placings are from
+
+-- the placing is from a row that is no folder's, or from an entry point
+abbrev pub IsFrom : Package → Placing → Type 0
+IsFrom pkg placing = HasOrigin pkg placing.from
+
+one_from : (pkg : Package) (kind : RowKind) (shown : Option Shown) (at : ℕ) (path : List ℕ) (able : Kind → Kind) (row : Row) → row.kind ≡ kind
+    → slice_get pkg.listing.rows at ≡ Some row
+    → AllByRecursion (IsFrom pkg) (placing_as (row_kind kind shown) (λ kind. record { path = path; kind = able kind; from = Origin.Row at }))
+one_from pkg RowKind.Hard None at path able row is is_row = tt
+one_from pkg RowKind.Hard (Some shown) at path able row is is_row = ((row, is_row, λ folder. cc (is, folder)), tt)
+one_from pkg RowKind.Soft None at path able row is is_row = tt
+one_from pkg RowKind.Soft (Some shown) at path able row is is_row = ((row, is_row, λ folder. cc (is, folder)), tt)
+one_from pkg RowKind.Folder shown at path able row is is_row = tt
+
+-- these rows are those of the package from this place on
+abbrev AreFrom : Package → ℕ → List Row → Type 0
+AreFrom pkg at rows = (k : ℕ) (row : Row) → slice_get rows k ≡ Some row → slice_get pkg.listing.rows (at + k) ≡ Some row
+
+rows_from : (pkg : Package) (python : Option (List ℕ)) (exec : Bool) (at : ℕ) (rows : List Row) (shown : List (Option Shown)) → AreFrom pkg at rows
+    → AllByRecursion (IsFrom pkg) (row_placings python exec at rows shown)
+rows_from pkg python exec at [] shown are = tt
+rows_from pkg python exec at (row ∷ rows) [] are = tt
+rows_from pkg python exec at (row ∷ rows) (one ∷ shown) are =
+    let here : at + 0 ≡ at = omega arith in
+    all_append (IsFrom pkg) (row_placing python exec at row one) (row_placings python exec (at + 1) rows shown)
+    (one_from pkg row.kind one at (place_of python row.path) (as_able exec) row refl
+    (subst (λ n. slice_get pkg.listing.rows n ≡ Some row) here (are 0 row refl)))
+    (rows_from pkg python exec (at + 1) rows shown
+    (λ k r e. let later : at + suc k ≡ (at + 1) + k = omega arith in subst (λ n. slice_get pkg.listing.rows n ≡ Some r) later (are (suc k) r e)))
+
+scripts_from : (pkg : Package) (exec : Bool) (at : ℕ) (entries : List EntryPoint) → at + length entries ≤ length pkg.link.entries
+    → AllByRecursion (IsFrom pkg) (script_placings exec at entries)
+scripts_from pkg exec at [] within = tt
+scripts_from pkg exec at (entry ∷ entries) within = (omega (arith, within), scripts_from pkg exec (at + 1) entries (omega (arith, within)))
+
+entries_within : (python : Option (List ℕ)) (pkg : Package) → 0 + length (entries_for python pkg) ≤ length pkg.link.entries
+entries_within None pkg = omega arith
+entries_within (Some python) pkg = omega arith
+
+-- what a package gives is from it
+pub from_package : (python : Option (List ℕ)) (pkg : Package) (abilities : Abilities) → AllByRecursion (IsFrom pkg) (placings_for python pkg abilities)
+from_package python pkg abilities =
+    all_append (IsFrom pkg) (row_placings python abilities.exec 0 pkg.listing.rows pkg.shown) (script_placings abilities.exec 0 (entries_for python pkg))
+    (rows_from pkg python abilities.exec 0 pkg.listing.rows pkg.shown
+    (λ k row e. let same : k ≡ 0 + k = omega arith in subst (λ n. slice_get pkg.listing.rows n ≡ Some row) same e))
+    (scripts_from pkg abilities.exec 0 (entries_for python pkg) (entries_within python pkg))

@@ -4,6 +4,7 @@ ghost use Rattle.std.specs.List.{AllByRecursion, Contains, list_any};
 ghost use Rattle.conda_base.specs.Texts.{is_text};
 ghost use Rattle.conda_paths.specs.Listings.{HasPaths, is_meta};
 ghost use Rattle.conda_link.specs.Places.{IsPython};
+ghost use Rattle.conda_placing.specs.Content.{HasOrigin};
 ghost use Rattle.conda_placing.specs.Placing as placing;
 ghost use Rattle.conda_placing.specs.Placing.{AreAllowed, GivesPlace, IsLinkEntry, IsReadPackage};
 ghost use Rattle.conda_placing.specs.Placing.{LacksPython, placings_of, places_of, row_placing};
@@ -203,8 +204,6 @@ fn placings_for(
     ensures made { IfOk result (λ made.
         made.items ≡ placing.placings_for (option_copied python.entry) pkg.now abilities) }
     ensures allowed { IfOk result (λ made. AreAllowed abilities made.items) }
-    ensures outside { IfOk result (λ made.
-        AllByRecursion (λ one. is_meta one.path ≡ false) made.items) }
     ensures refused { IfErr result (Refuses pkg.now abilities
         (placing.placings_for (option_copied python.entry) pkg.now abilities)) }
 {
@@ -242,6 +241,8 @@ pub fn placings(
     ensures allowed { IfOk result (λ made. AreAllowed abilities made.items) }
     ensures outside { IfOk result (λ made.
         AllByRecursion (λ one. is_meta one.path ≡ false) made.items) }
+    ensures origins { IfOk result (λ made.
+        AllByRecursion (λ one. HasOrigin pkg.now one.from) made.items) }
     ensures refused { IfErr result
         (RefusesPlacings pkg.now (option_copied python.entry) abilities) }
 {

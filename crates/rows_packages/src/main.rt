@@ -3,6 +3,7 @@
 
 mod link;
 mod paths;
+mod placing;
 mod record;
 mod repodata;
 
@@ -24,6 +25,9 @@ impl Table for Packages {
             return Ok(Some(answer));
         }
         if let Some(answer) = link::answer(alloc, call, arguments)? {
+            return Ok(Some(answer));
+        }
+        if let Some(answer) = placing::answer(alloc, call, arguments)? {
             return Ok(Some(answer));
         }
         if let Some(answer) = record::answer(alloc, call, arguments)? {
