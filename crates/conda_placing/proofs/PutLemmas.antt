@@ -1,5 +1,5 @@
 -- Placings put behind one another, each at a path that none before has.
-use Rattle.std.specs.Prelude.{◌≡◌, ◌≢◌, ℕ, ◌≤◌, ◌<◌, zero, suc, Bool, true, false, not, ◌||◌, cond, List, [], ◌∷◌, ◌++◌, length, map}
+use Rattle.std.specs.Prelude.{◌≡◌, ◌≢◌, ℕ, ◌≤◌, ◌<◌, zero, suc, Bool, true, false, not, ◌||◌, cond, List, [], ◌∷◌, ◌++◌, length, map, Option, Some, Result, Ok, Err, OnOk}
 use Rattle.std.proofs.Common.{refl, ap, sym, ◌∙◌, subst, inl, inr, ◌⊎◌, arith, get_or}
 use Rattle.std.proofs.lemmas.Bool.{or_cases, true≢false}
 use Rattle.std.proofs.lemmas.Bool.Decides.{Decides-eqb}
@@ -13,9 +13,14 @@ use Rattle.std.specs.Cmp.Lexicographic.{nat_list_eq_equiv, slice_cmp, texts_ties
 use Rattle.std.specs.List.{AllByRecursion, Contains, list_any}
 use Rattle.std.specs.Ordering.{nat_cmp}
 use Rattle.conda_base.specs.Texts.{is_text}
+use Rattle.conda_path.specs.declared.values.Kind.{Kind}
 use Rattle.conda_device.specs.declared.lane.Abilities.{Abilities}
 use Rattle.conda_paths.specs.Listings.{HasPaths}
-use Rattle.conda_placing.specs.Placing.{AreAllowed, IsBadPlace, IsNoLink, places_of}
+use Rattle.conda_paths.specs.declared.error.ListingWhy.{ListingWhy}
+use Rattle.conda_placing.specs.Placing.{AreAllowed, GivesPlace, IsBadPlace, IsNoLink, as_able, places_of}
+use Rattle.conda_placing.specs.Refusals.{RefusesScript}
+use Rattle.conda_placing.specs.declared.error.PlacingErr.{PlacingErr}
+use Rattle.conda_placing.specs.declared.placing.Origin.{Origin}
 use Rattle.conda_placing.specs.declared.placing.Placing.{Placing}
 
 same_text : (a b : List ℕ) → Decides (is_text a b) (a ≡ b)
@@ -36,7 +41,7 @@ contains_any : (paths : List (List ℕ)) (path : List ℕ) → Contains paths pa
 contains_any paths path has = list_any-from_Any (is_text path) paths (has.0, path, has.1, has.2, nat_list_eq_equiv.refl path)
 
 pub not_among : (paths : List (List ℕ)) (path : List ℕ) → not (list_any (is_text path) paths) ≡ true → ¬ Contains paths path
-not_among paths path new has = true≢false (sym (ap not (contains_any paths path has)) ∙ new)
+not_among paths path new has = true≢false (sym new ∙ ap not (contains_any paths path has))
 
 was_among : (b : Bool) → not b ≡ false → b ≡ true
 was_among true e = refl
@@ -94,3 +99,30 @@ pub fits : (placings : List Placing) (placing : Placing) → length placing.path
     → ¬ IsBadPlace placings placing
 fits placings placing short new (inl long) = omega (arith, short, long)
 fits placings placing short new (inr has) = new has
+
+-- one more placing was put
+pub allowed_after : {T E : Type 0} (r : Result T E) (abilities : Abilities) (before after : List Placing) (placing : Placing) → AreAllowed abilities before
+    → OnOk r (after ≡ before ++ placing ∷ []) → OnOk r (length placing.path ≤ 1024) → OnOk r (¬ Contains (places_of before) placing.path)
+    → (¬ IsNoLink abilities placing) → OnOk r (AreAllowed abilities after)
+allowed_after (Ok x) abilities before after placing are is short new link = subst (AreAllowed abilities) (sym is) (allowed_push abilities before placing are short new link)
+allowed_after (Err e) abilities before after placing are is short new link = tt
+
+-- a script is no soft link
+pub no_script_link : (exec : Bool) → as_able exec Kind.Exec ≢ Kind.Soft
+no_script_link true e = cc e
+no_script_link false e = cc e
+
+-- the place that is given is one that stood before
+pub stood_before : (place : Option (List ℕ)) (given path : List ℕ) (kind : Kind) (from : Origin) (number : ℕ) (made : List Placing) → place ≡ Some given
+    → GivesPlace place path → Contains (places_of made) given
+    → RefusesScript number made (record { path = path; kind = kind; from = from } ∷ []) (PlacingErr.BadListing number ListingWhy.Path)
+stood_before place given path kind from number made is gives has =
+    let same = subst (λ p. GivesPlace p path) is gives in
+    inl (refl, record { placing = record { path = path; kind = kind; from = from }; one = refl; bad = inr (subst (Contains (places_of made)) same.0 has) })
+
+-- the place that is given is none that stood before
+pub is_free : (place : Option (List ℕ)) (given path : List ℕ) (made : List Placing) → place ≡ Some given → GivesPlace place path
+    → (¬ Contains (places_of made) given) → ¬ Contains (places_of made) path
+is_free place given path made is gives new =
+    let same = subst (λ p. GivesPlace p path) is gives in
+    subst (λ p. ¬ Contains (places_of made) p) same.0 new

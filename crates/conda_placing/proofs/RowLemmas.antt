@@ -1,10 +1,10 @@
 -- What rows and entry points give, one behind another, and the first of it that is refused.
-use Rattle.std.specs.Prelude.{◌≡◌, ◌≢◌, ℕ, ◌+◌, ◌≤◌, ◌<◌, zero, suc, Bool, true, false, if◌then◌else◌, List, [], ◌∷◌, ◌++◌, codes, length, Option, None, Some, slice_get}
+use Rattle.std.specs.Prelude.{◌≡◌, ◌≢◌, ℕ, ◌+◌, ◌≤◌, ◌<◌, zero, suc, Bool, true, false, if◌then◌else◌, List, [], ◌∷◌, ◌++◌, codes, length, Option, None, Some, Result, Ok, Err, IfOk, slice_get}
 use Rattle.std.proofs.Common.{refl, ap, sym, ◌∙◌, subst, inl, inr, ◌⊎◌, arith, get_or, drop}
 use Rattle.std.proofs.lemmas.List.{append-nil, append_assoc, drop_more}
 use Rattle.std.proofs.lemmas.Option.{same_Some}
 use Rattle.std.specs.BTreeSet.{BTreeSet}
-use Rattle.std.specs.List.{AllByRecursion}
+use Rattle.std.specs.List.{AllByRecursion, Contains}
 use Rattle.std.specs.Option.{option_map_or}
 use Rattle.conda_base.specs.Signs.{slash}
 use Rattle.conda_base.specs.Texts.{cut_first, is_text}
@@ -20,6 +20,7 @@ use Rattle.conda_link.specs.declared.info.EntryPoint.{EntryPoint}
 use Rattle.conda_placing.specs.Content.{HasOrigin}
 use Rattle.conda_placing.specs.Placing.{AreAllowed, AreShown, IsBadPlace, IsListed, IsNoLink, IsReadPackage, IsRowPath, as_able, entries_for, place_of, placing_as, placings_for, row_kind, row_number, row_placing, row_placings, places_of, script_place, script_placings}
 use Rattle.conda_placing.specs.Refusals.{HasBadPlace, HasNoLink, IsBadBehind, IsLinkBehind, Refuses, RefusesRow, RefusesScript}
+use Rattle.conda_placing.proofs.PutLemmas.{fits, none_allowed}
 use Rattle.conda_placing.specs.declared.error.PlacingErr.{PlacingErr}
 use Rattle.conda_placing.specs.declared.package.Package.{Package}
 use Rattle.conda_placing.specs.declared.placing.Origin.{Origin}
@@ -63,7 +64,31 @@ pub record IsPutSoFar (abilities : Abilities) (all made rest : List Placing) (pl
   pub paths : HasPaths places (places_of made)
   pub allowed : AreAllowed abilities made
 
+-- nothing was put yet
+pub start : (abilities : Abilities) (made rest all : List Placing) (places : BTreeSet (List ℕ)) → made ≡ [] → rest ≡ all → HasPaths places []
+    → IsPutSoFar abilities all made rest places
+start abilities made rest all places none are has = record {
+  are = ap (λ ps. ps ++ rest) none ∙ are;
+  paths = subst (λ ps. HasPaths places (places_of ps)) (sym none) has;
+  allowed = subst (AreAllowed abilities) (sym none) (none_allowed abilities);
+}
+
+-- what a row gives, whose kind is known
+pub row_gives : (python : Option (List ℕ)) (exec : Bool) (at : ℕ) (row : Row) (shown : Option Shown) (kind able : Kind) → row_kind row.kind shown ≡ Some kind
+    → able ≡ as_able exec kind
+    → row_placing python exec at row shown ≡ record { path = place_of python row.path; kind = able; from = Origin.Row at } ∷ []
+row_gives python exec at row shown kind able is same =
+    ap (λ o. placing_as o (λ k. record { path = place_of python row.path; kind = as_able exec k; from = Origin.Row at })) is
+    ∙ ap (λ k. record { path = place_of python row.path; kind = k; from = Origin.Row at } ∷ []) (sym same)
+
 -- ---- refusals
+
+-- a soft link where none can be made is refused, whose place can be had
+pub link_refused : (abilities : Abilities) (at : ℕ) (row : Row) (made given : List Placing) (placing : Placing) (path : List ℕ) → given ≡ placing ∷ []
+    → length placing.path ≤ 1024 → (¬ Contains (places_of made) placing.path) → IsNoLink abilities placing → path ≡ row.path
+    → RefusesRow abilities at row made given (PlacingErr.NoSoftLink path)
+link_refused abilities at row made given placing path one short new link is =
+    inr (ap PlacingErr.NoSoftLink is, record { placing = placing; one = one; fits = fits made placing short new; link = link })
 
 same_head : (x y : Placing) → x ∷ [] ≡ y ∷ [] → x ≡ y
 same_head x y e = cc e
@@ -266,3 +291,9 @@ from_package python pkg abilities =
     (rows_from pkg python abilities.exec 0 pkg.listing.rows pkg.shown
     (λ k row e. let same : k ≡ 0 + k = omega arith in subst (λ n. slice_get pkg.listing.rows n ≡ Some row) same e))
     (scripts_from pkg abilities.exec 0 (entries_for python pkg) (entries_within python pkg))
+
+-- what is said of a list that was made
+pub all_after : {V E : Type 0} (r : Result V E) (items : V → List Placing) (P : Placing → Type 0) (all : List Placing) → IfOk r (λ v. items v ≡ all)
+    → AllByRecursion P all → IfOk r (λ v. AllByRecursion P (items v))
+all_after (Ok v) items P all is holds = subst (AllByRecursion P) (sym is) holds
+all_after (Err e) items P all is holds = tt

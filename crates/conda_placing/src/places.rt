@@ -40,7 +40,7 @@ pub fn row_place(
     python: Option<&str>,
     path: &RelPath,
 ) -> Result<Option<RelPath>, AllocError>
-    requires { IfSome (option_copied python.entry) IsPython }
+    requires { IfSome (option_copied python) IsPython }
     ensures { IfOk result
         (λ found. GivesPlace found (place_of (option_copied python.entry) path.now)) }
 {

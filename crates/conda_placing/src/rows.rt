@@ -1,5 +1,5 @@
 ghost use Rattle.std.specs.Prelude.{◌≡◌, ◌+◌, ◌<◌, ◌≤◌, ◌^◌, ◌++◌, ◌↔◌, [], ◌∷◌, IfErr, IfOk, IfSome};
-ghost use Rattle.std.specs.Prelude.{IsTrue, List, OnOk, length, not, option_copied, ℕ};
+ghost use Rattle.std.specs.Prelude.{IsTrue, List, OnOk, false, length, not, option_copied, ℕ};
 ghost use Rattle.std.specs.List.{AllByRecursion, Contains, list_any};
 ghost use Rattle.conda_base.specs.Texts.{is_text};
 ghost use Rattle.conda_paths.specs.Listings.{HasPaths, is_meta};
@@ -89,7 +89,7 @@ fn put_row(
 ) -> Result<(), PlacingErr>
     requires places { HasPaths places.old (places_of made.old.items) }
     requires allowed { AreAllowed abilities made.old.items }
-    requires python { IfSome (option_copied python.entry) IsPython }
+    requires python { IfSome (option_copied python) IsPython }
     ensures made { OnOk result (made.new.items ≡ made.old.items
         ++ row_placing (option_copied python.entry) abilities.exec at row.now shown.now) }
     ensures places { OnOk result (HasPaths places.new (places_of made.new.items)) }
@@ -120,7 +120,7 @@ fn row_placings(
     pkg: &Package,
 ) -> Result<Vec<Placing>, PlacingErr>
     requires pkg { IsReadPackage pkg.now }
-    requires python { IfSome (option_copied python.entry) IsPython }
+    requires python { IfSome (option_copied python) IsPython }
     requires places { HasPaths places.old [] }
     ensures made { IfOk result (λ made. made.items ≡ placing.row_placings (option_copied python.entry)
         abilities.exec 0 pkg.now.listing.rows pkg.now.shown) }
@@ -200,7 +200,7 @@ fn placings_for(
     pkg: &Package,
 ) -> Result<Vec<Placing>, PlacingErr>
     requires pkg { IsReadPackage pkg.now }
-    requires python { IfSome (option_copied python.entry) IsPython }
+    requires python { IfSome (option_copied python) IsPython }
     ensures made { IfOk result (λ made.
         made.items ≡ placing.placings_for (option_copied python.entry) pkg.now abilities) }
     ensures allowed { IfOk result (λ made. AreAllowed abilities made.items) }
@@ -234,7 +234,7 @@ pub fn placings(
     abilities: Abilities,
 ) -> Result<Vec<Placing>, PlacingErr>
     requires pkg { IsReadPackage pkg.now }
-    requires python { IfSome (option_copied python.entry) IsPython }
+    requires python { IfSome (option_copied python) IsPython }
     ensures placings { IfOk result (λ made.
         made.items ≡ placings_of pkg.now (option_copied python.entry) abilities) }
     ensures python { OnOk result (¬ LacksPython pkg.now.rec.noarch (option_copied python.entry)) }
