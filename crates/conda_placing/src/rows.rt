@@ -20,7 +20,6 @@ use conda_device::{Abilities, Shown};
 use conda_link::EntryPoint;
 use conda_path::{Kind, RelPath};
 use conda_paths::{ListingWhy, Row};
-use conda_record::Noarch;
 use std::alloc::{AllocError, Global};
 use std::collections::BTreeSet;
 

@@ -9,12 +9,12 @@ pub returns-then-not-branch-clause-refused : goal.returns-then-not-branch-clause
 returns-then-not-branch-clause-refused c = λ path gives.
     let places = places_of c.args.made.now.items in
     let known = c.in_ok-is_new.ensures.new places c.requires in
-    let old : not (list_any (is_text c.in-Some.path) places) ≡ false = cc (known, c.path.view_is, c.if-not-branch.true) in
+    let old : not (list_any (is_text c.in-Some.path) places) ≡ false = cc (known, c.if-not-branch.true) in
     stood_before c.args.place c.in-Some.path path c.args.kind c.args.from c.args.row c.args.made.now.items c.in-Some.is gives (among_them places c.in-Some.path old)
 
 pub returns-clause-new : goal.returns-clause-new
 returns-clause-new c = λ path gives.
     let places = places_of c.args.made.now.items in
     let known = c.in_ok-is_new.ensures.new places c.requires in
-    let new : not (list_any (is_text c.in-Some.path) places) ≡ true = cc (known, c.path.view_is, c.if-not-branch.false) in
+    let new : not (list_any (is_text c.in-Some.path) places) ≡ true = cc (known, c.if-not-branch.false) in
     is_free c.args.place c.in-Some.path path c.args.made.now.items c.in-Some.is gives (not_among places c.in-Some.path new)
