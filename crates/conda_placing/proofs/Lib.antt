@@ -1,4 +1,3 @@
-pub mod ScriptLemmas
 pub mod PutLemmas
 pub mod RowLemmas
 pub mod ContentLemmas

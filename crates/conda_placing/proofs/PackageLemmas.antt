@@ -1,15 +1,15 @@
 -- Listings and link files that are read are as a package has them.
-use Rattle.std.specs.Prelude.{◌≡◌, ◌≢◌, ◌↔◌, ℕ, ◌<◌, Bool, List, [], ◌∷◌, codes, length, Option, None, Some, IfSome, option_map, Ok, Err}
-use Rattle.std.proofs.Common.{refl, sym, subst, inl, inr, ◌⊎◌, arith}
+use Rattle.std.specs.Prelude.{◌≡◌, ◌≢◌, ◌↔◌, ℕ, ◌<◌, Bool, List, [], ◌∷◌, length, Option, None, Some, IfSome, option_map, Ok, Err}
+use Rattle.std.proofs.Common.{refl, sym, subst, inl, inr, arith}
 use Rattle.std.specs.List.{AllByRecursion}
 use Rattle.serde_json.specs.Data.{Data, Items, no_items, item}
-use Rattle.conda_base.specs.Reads.{Read, ◌>>=◌}
+use Rattle.conda_base.specs.Reads.{Read}
 use Rattle.conda_json.specs.Fields.{or_fault}
 use Rattle.conda_json.specs.Json.{object_read}
 use Rattle.conda_json.specs.Shown.{bound, same}
 use Rattle.conda_json.specs.declared.error.JsonErr.{JsonErr}
-use Rattle.conda_paths.specs.Listings.{bare_row, listing_of, listing_read}
-use Rattle.conda_paths.specs.Rules.{AreRows, IsListing, IsOfKind, IsRow}
+use Rattle.conda_paths.specs.Listings.{listing_of, listing_read}
+use Rattle.conda_paths.specs.Rules.{AreRows, IsListing, IsOfKind}
 use Rattle.conda_paths.specs.declared.error.ListingWhy.{ListingWhy}
 use Rattle.conda_paths.specs.declared.listing.Listing.{Listing}
 use Rattle.conda_paths.specs.declared.row.Placeholder.{Placeholder}

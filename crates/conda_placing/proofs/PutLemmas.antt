@@ -1,5 +1,5 @@
 -- Placings put behind one another, each at a path that none before has.
-use Rattle.std.specs.Prelude.{◌≡◌, ◌≢◌, ℕ, ◌≤◌, ◌<◌, zero, suc, Bool, true, false, not, ◌||◌, cond, List, [], ◌∷◌, ◌++◌, length, map, Option, Some, Result, Ok, Err, OnOk}
+use Rattle.std.specs.Prelude.{◌≡◌, ◌≢◌, ℕ, ◌≤◌, ◌<◌, suc, Bool, true, false, not, ◌||◌, cond, List, [], ◌∷◌, ◌++◌, length, Option, Some, Result, Ok, Err, OnOk}
 use Rattle.std.proofs.Common.{refl, ap, sym, ◌∙◌, subst, inl, inr, ◌⊎◌, arith, get_or}
 use Rattle.std.proofs.lemmas.Bool.{or_cases, true≢false}
 use Rattle.std.proofs.lemmas.Bool.Decides.{Decides-eqb}

@@ -1,8 +1,7 @@
 -- What rows and entry points give, one behind another, and the first of it that is refused.
-use Rattle.std.specs.Prelude.{◌≡◌, ◌≢◌, ℕ, ◌+◌, ◌≤◌, ◌<◌, zero, suc, Bool, true, false, if◌then◌else◌, List, [], ◌∷◌, ◌++◌, codes, length, Option, None, Some, Result, Ok, Err, IfOk, slice_get}
-use Rattle.std.proofs.Common.{refl, ap, sym, ◌∙◌, subst, inl, inr, ◌⊎◌, arith, get_or, drop}
-use Rattle.std.proofs.lemmas.List.{append-nil, append_assoc, drop_more}
-use Rattle.std.proofs.lemmas.Option.{same_Some}
+use Rattle.std.specs.Prelude.{◌≡◌, ℕ, ◌+◌, ◌≤◌, ◌<◌, suc, Bool, true, false, if◌then◌else◌, List, [], ◌∷◌, ◌++◌, codes, length, Option, None, Some, Result, Ok, Err, IfOk, slice_get}
+use Rattle.std.proofs.Common.{refl, ap, sym, ◌∙◌, subst, inl, inr, arith, get_or, drop}
+use Rattle.std.proofs.lemmas.List.{append_assoc, drop_more}
 use Rattle.std.specs.BTreeSet.{BTreeSet}
 use Rattle.std.specs.List.{AllByRecursion, Contains}
 use Rattle.std.specs.Option.{option_map_or}
@@ -12,14 +11,13 @@ use Rattle.conda_path.specs.declared.values.Kind.{Kind}
 use Rattle.conda_device.specs.declared.chan.Shown.{Shown}
 use Rattle.conda_device.specs.declared.lane.Abilities.{Abilities}
 use Rattle.conda_paths.specs.Listings.{HasPaths, is_meta}
-use Rattle.conda_paths.specs.declared.error.ListingWhy.{ListingWhy}
 use Rattle.conda_paths.specs.declared.row.Row.{Row}
 use Rattle.conda_paths.specs.declared.row.RowKind.{RowKind}
-use Rattle.conda_link.specs.Places.{placed, placed_part}
+use Rattle.conda_link.specs.Places.{placed_part}
 use Rattle.conda_link.specs.declared.info.EntryPoint.{EntryPoint}
 use Rattle.conda_placing.specs.Content.{HasOrigin}
-use Rattle.conda_placing.specs.Placing.{AreAllowed, AreShown, IsBadPlace, IsListed, IsNoLink, IsReadPackage, IsRowPath, as_able, entries_for, place_of, placing_as, placings_for, row_kind, row_number, row_placing, row_placings, places_of, script_place, script_placings}
-use Rattle.conda_placing.specs.Refusals.{HasBadPlace, HasNoLink, IsBadBehind, IsLinkBehind, Refuses, RefusesRow, RefusesScript}
+use Rattle.conda_placing.specs.Placing.{AreAllowed, AreShown, IsListed, IsNoLink, IsReadPackage, IsRowPath, as_able, entries_for, place_of, placing_as, placings_for, row_kind, row_number, row_placing, row_placings, places_of, script_place, script_placings}
+use Rattle.conda_placing.specs.Refusals.{HasBadPlace, IsBadBehind, Refuses, RefusesRow, RefusesScript}
 use Rattle.conda_placing.proofs.PutLemmas.{fits, none_allowed}
 use Rattle.conda_placing.specs.declared.error.PlacingErr.{PlacingErr}
 use Rattle.conda_placing.specs.declared.package.Package.{Package}

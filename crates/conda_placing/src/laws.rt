@@ -6,9 +6,7 @@ ghost use Rattle.conda_link.specs.Links.{link_read};
 ghost use Rattle.conda_link.specs.declared.info.LinkInfo.{LinkInfo};
 ghost use Rattle.conda_placing.specs.Placing.{IsLinkEntry, IsListed};
 
-use conda_base::cut_laws;
 use conda_link::link_laws;
-use conda_path::path_laws;
 use conda_paths::listing_laws;
 
 /// The rows of each listing that is read, and the entry points of each link file that is read, are
@@ -21,6 +19,4 @@ pub fn package_laws()
 {
     listing_laws();
     link_laws();
-    cut_laws();
-    path_laws();
 }

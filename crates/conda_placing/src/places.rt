@@ -5,7 +5,7 @@ ghost use Rattle.conda_placing.specs.Placing as placing;
 ghost use Rattle.conda_placing.specs.Placing.{GivesPlace, IsLinkEntry, LacksPython, place_of};
 ghost use Rattle.conda_placing.specs.Placing.{script_place};
 
-use conda_base::{Copied, cut_laws};
+use conda_base::Copied;
 use conda_device::Shown;
 use conda_link::{EntryPoint, LinkErr, place};
 use conda_path::{Kind, PathErr, RelPath, path_laws};
@@ -60,7 +60,6 @@ pub fn entry_place(alloc: Global, entry: &EntryPoint) -> Result<Option<RelPath>,
     requires { IsLinkEntry entry.now }
     ensures { IfOk result (λ found. GivesPlace found (script_place entry.now)) }
 {
-    cut_laws();
     path_laws();
     let text = format!(in alloc; "bin/{}", entry.command.as_str())?;
     match RelPath::read(alloc, text.as_str()) {

@@ -1,4 +1,4 @@
-use Rattle.std.specs.Prelude.{◌≡◌, Some, slice_get}
+use Rattle.std.specs.Prelude.{Some}
 use Rattle.std.proofs.Common.{ap, ◌∙◌}
 use Rattle.std.proofs.lemmas.Result.{IfErr-weaker, IfOk-weaker, on_ok_weaker}
 use Rattle.conda_placing.specs.Content.{IsContent, IsRowContent}

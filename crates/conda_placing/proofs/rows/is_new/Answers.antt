@@ -1,6 +1,3 @@
-use Rattle.std.proofs.Common.{subst}
-use Rattle.std.specs.Prelude.{◌∷◌, [], ◌++◌}
-use Rattle.conda_paths.specs.Listings.{HasPaths}
 use Rattle.conda_placing.proofs.PutLemmas.{one_path}
 use Rattle.conda_placing.proofs.rows.is_new.Goals as goal
 

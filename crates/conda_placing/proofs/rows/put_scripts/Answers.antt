@@ -1,5 +1,5 @@
-use Rattle.std.specs.Prelude.{◌+◌, ◌<◌, [], ◌∷◌, ◌++◌, List, drop, length}
-use Rattle.std.proofs.Common.{sym, ◌∙◌, subst, arith}
+use Rattle.std.specs.Prelude.{◌+◌, [], ◌∷◌, ◌++◌, List, drop, length}
+use Rattle.std.proofs.Common.{sym, ◌∙◌, subst}
 use Rattle.std.proofs.lemmas.Result.{err_from_is_err_and}
 use Rattle.conda_paths.specs.declared.row.Row.{Row}
 use Rattle.conda_placing.specs.Placing.{script_placings}
