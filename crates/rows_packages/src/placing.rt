@@ -174,16 +174,16 @@ fn abilities_of(text: &str) -> Abilities {
 /// The placings for a Python of this version, or for none where it is `-`.
 fn placed(
     alloc: Global,
-    package: &Package,
+    pkg: &Package,
     python: &str,
     abilities: &str,
 ) -> Result<Option<String>, AllocError>
-    requires { IsReadPackage package.now }
+    requires { IsReadPackage pkg.now }
 {
     let abilities = abilities_of(abilities);
-    let package = &package.copy(alloc)?;
+    let pkg = &pkg.copy(alloc)?;
     if python == "-" {
-        let made = placings(alloc, package, None, abilities);
+        let made = placings(alloc, pkg, None, abilities);
         return Ok(Some(shown_placings(alloc, made)?));
     }
     let Ok(version) = Version::read(alloc, python) else {
@@ -192,7 +192,7 @@ fn placed(
     let Some(python) = python_of(&version) else {
         return Ok(None);
     };
-    let made = placings(alloc, package, Some(python), abilities);
+    let made = placings(alloc, pkg, Some(python), abilities);
     Ok(Some(shown_placings(alloc, made)?))
 }
 
@@ -265,31 +265,31 @@ fn origin_of(text: &str) -> Option<(Kind, Origin)> {
     }
 }
 
-fn has_origin(package: &Package, from: Origin) -> bool
-    ensures { IsTrue result → HasOrigin package.now from }
+fn has_origin(pkg: &Package, from: Origin) -> bool
+    ensures { IsTrue result → HasOrigin pkg.now from }
 {
     match from {
-        Origin::Row(at) => match package.listing.rows.as_slice().get(at) {
+        Origin::Row(at) => match pkg.listing.rows.as_slice().get(at) {
             Some(row) => row.kind != RowKind::Folder,
             None => false,
         },
-        Origin::Entry(at) => at < package.link.entries.len(),
+        Origin::Entry(at) => at < pkg.link.entries.len(),
     }
 }
 
 fn filled(
     alloc: Global,
-    package: &Package,
+    pkg: &Package,
     place: &str,
     prefix: &str,
     bytes: Vec<u8>,
 ) -> Result<Option<String>, AllocError>
-    requires { IsReadPackage package.now }
+    requires { IsReadPackage pkg.now }
 {
     let Some((kind, from)) = origin_of(place) else {
         return Ok(None);
     };
-    if !has_origin(package, from) {
+    if !has_origin(pkg, from) {
         return Ok(None);
     }
     let Ok(prefix) = Prefix::read(alloc, prefix) else {
@@ -299,7 +299,7 @@ fn filled(
         return Ok(None);
     };
     let placing = Placing { path, kind, from };
-    match content(alloc, package, &placing, &prefix, bytes) {
+    match content(alloc, pkg, &placing, &prefix, bytes) {
         Ok(node) => Ok(Some(shown_node(alloc, &node)?)),
         Err(error) => Ok(Some(refusal(alloc, &error)?)),
     }
