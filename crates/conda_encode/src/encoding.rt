@@ -1,7 +1,7 @@
 ghost use Rattle.std.specs.Prelude.{◌≡◌, ◌<◌, ◌^◌, IfOk, length, true};
 ghost use Rattle.std.specs.List.{list_all};
 ghost use Rattle.conda_encode.specs.Sides.{is_within};
-ghost use Rattle.conda_encode.specs.Clauses.{encoded_of, reasons};
+ghost use Rattle.conda_encode.specs.Clauses.{clauses, encoded_of, reasons};
 ghost use Rattle.conda_encode.specs.Variables.{IsRequest, vars_of};
 
 use crate::asked::Asked;
@@ -14,6 +14,7 @@ use crate::write::{write_barred, write_needed, write_pinned, write_wanted};
 use crate::written::Written;
 use conda_base::{Rows, copied_all};
 use conda_record::NamePool;
+use conda_refute::Clause;
 use std::alloc::{AllocError, Global};
 
 /// The clauses of a request with their reasons, and the number of variables.
@@ -59,4 +60,22 @@ pub fn encode(alloc: Global, pools: &[NamePool], asked: &[Asked]) -> Result<Enco
         clauses,
         whys,
     })
+}
+
+/// The number of variables and the clauses that [`encode`] gives, without the request and the
+/// reasons: what a solver needs. Its only error is `Memory`.
+pub fn clauses_of(
+    alloc: Global,
+    pools: &[NamePool],
+    asked: &[Asked],
+) -> Result<(u32, Rows<Clause>), EncodeErr>
+    requires { IsRequest pools.now asked.now }
+    ensures vars { IfOk result (λ r. r.0 ≡ vars_of pools.now) }
+    ensures clauses { IfOk result (λ r. r.1 ≡ clauses pools.now asked.now) }
+    ensures few { IfOk result (λ r. r.0 < 2 ^ 29) }
+    ensures within { IfOk result (λ r. list_all (list_all (is_within r.0)) r.1 ≡ true) }
+{
+    let (written, vars) = written(alloc, pools, asked)?;
+    let (_, clauses) = written.into_parts();
+    Ok((vars, clauses))
 }

@@ -21,7 +21,7 @@ mod written;
 pub use asked::{AskKind, Asked};
 pub use cut::set_of;
 pub use encoded::{Encoded, Why};
-pub use encoding::encode;
+pub use encoding::{clauses_of, encode};
 pub use error::EncodeErr;
 pub use known::{place_of, places_of, starts_of};
 pub use laws::encode_laws;

@@ -13,7 +13,7 @@ use crate::error::ResolveErr;
 use crate::order::order_of;
 use crate::places::Places;
 use crate::sorting::by_name;
-use conda_encode::{Asked, encode, flat};
+use conda_encode::{Asked, clauses_of, flat};
 use conda_record::{NamePool, PkgRecord};
 use conda_sat::{Solver, Verdict};
 use std::alloc::{AllocError, Global};
@@ -24,7 +24,7 @@ use std::alloc::{AllocError, Global};
 /// before the others of its pool, unless the newest one of the name is asked for.
 ///
 /// `Unsat` is answered exactly where there is no solution; its log is a refutation of clauses of
-/// the request, which `encode` gives. The only other error is `Memory`.
+/// the request, as `encode` gives them. The only other error is `Memory`.
 pub fn resolve(
     alloc: Global,
     pools: &[NamePool],
@@ -39,8 +39,8 @@ pub fn resolve(
     ensures inputs { IfErr result (λ e. IfSome (log_of e)
         (λ log. All (Contains (clauses pools.now asked.now)) log.inputs)) }
 {
-    let encoded = encode(alloc, pools, asked)?;
-    let mut solver = Solver::make(alloc, encoded.vars, encoded.clauses.as_slice())?;
+    let (vars, clauses) = clauses_of(alloc, pools, asked)?;
+    let mut solver = Solver::make(alloc, vars, clauses.as_slice())?;
     match chosen(alloc, pools, asked, installed, &mut solver)? {
         Some(set) => Ok(set),
         None => Err(ResolveErr::Unsat {

@@ -7,5 +7,5 @@ returns-clause-none c = c.chosen.ensures.none (c.in_ok-set.was ∙ ap Ok c.in-No
 pub returns-clause-inputs : goal.returns-clause-inputs
 returns-clause-inputs c =
     let none : c.chosen.result ≡ Ok None = c.in_ok-set.was ∙ ap Ok c.in-None.is in
-    let same = c.chosen.ensures.clauses none ∙ ap (λ s. s.clauses) c.in_ok-solver.ensures ∙ c.as_slice.ensures ∙ ap (λ e. e.clauses) c.in_ok-encoded.ensures.exact in
+    let same = c.chosen.ensures.clauses none ∙ ap (λ s. s.clauses) c.in_ok-solver.ensures ∙ c.as_slice.ensures ∙ c.in_ok-vars.ensures.clauses in
     rw same at c.in_ok-refutation-in-None.ensures.inputs
