@@ -16,4 +16,5 @@ pub use conditions::{INDEX_LIMIT, can_index};
 pub use error::IndexErr;
 pub use index::Index;
 pub use laws::{index_laws, order_laws};
+pub use names::is_virtual_name;
 pub use virtuals::Virtual;
