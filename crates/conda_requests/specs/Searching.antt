@@ -12,4 +12,4 @@ NamesNone spec index = found spec index ≡ []
 -- the text has a line for each record that it names, of which there is one; they stand by name, those of a name in plain order
 pub record IsSearchReport (spec : Parts) (index : List PkgRecord) (text : List ℕ) : Type 0 where
   pub some : found spec index ≢ []
-  pub text : text ≡ records_text (found spec index)
+  pub lines : text ≡ records_text (found spec index)

@@ -43,7 +43,7 @@ pub record IsChoiceReport (specs : List Parts) (index : List PkgRecord) (text : 
   pub are_pools : ArePools index (items_of specs) pools
   pub set : List PkgRecord
   pub choice : IsChoice pools (items_of specs) [] set
-  pub text : text ≡ records_text (linkable set)
+  pub lines : text ≡ records_text (linkable set)
 
 -- there is no solution, and the text is the report of a refutation of clauses that say what a solution has to be
 pub record IsUnsatReport (specs : List Parts) (index : List PkgRecord) (text : List ℕ) : Type 0 where
@@ -53,7 +53,7 @@ pub record IsUnsatReport (specs : List Parts) (index : List PkgRecord) (text : L
   pub log : Log
   pub refuted : refuted log ≡ true
   pub inputs : All (Contains (clauses pools (items_of specs))) log.inputs
-  pub text : text ≡ report_text pools (items_of specs) log
+  pub lines : text ≡ report_text pools (items_of specs) log
 
 -- the answer is "no", with such a report
 abbrev pub IsNo : List Parts → List PkgRecord → RequestErr → Type 0

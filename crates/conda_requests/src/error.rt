@@ -8,7 +8,7 @@ use thiserror::Error;
 pub enum RequestErr {
     /// A word is no specification, or one that holds a star in its name where none is taken: the
     /// word, the place of the fault in bytes of the word without the spaces at its ends, and why.
-    #[error("bad specification {text}: {at} {why}")]
+    #[error("bad specification at {at}: {why}")]
     BadSpec { text: Text, at: u64, why: SpecWhy },
     /// No record of a pool is one that the specification names.
     #[error("no match")]

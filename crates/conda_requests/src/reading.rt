@@ -2,13 +2,14 @@ ghost use Rattle.std.specs.Prelude.{◌≡◌, IfOk, IfSome};
 ghost use Rattle.std.specs.List.{All};
 ghost use Rattle.conda_base.specs.Reads.{Gives};
 ghost use Rattle.conda_encode.specs.Variables.{IsPlain};
-ghost use Rattle.conda_requests.specs.Words.{name_place, plain_read, plain_words_read, word_fault_of};
-ghost use Rattle.conda_requests.specs.Words.{word_read};
-ghost use Rattle.conda_version.specs.Text.{trimmed};
+ghost use Rattle.conda_requests.specs.Words as word_specs;
+ghost use Rattle.conda_requests.specs.Words.{plain_read, plain_words_read, word_fault_of, word_read};
+ghost use Rattle.conda_version.specs.Text as version_text;
 
 use crate::error::RequestErr;
 use conda_base::{Rows, Text};
 use conda_spec::{Spec, SpecErr, SpecWhy};
+use conda_version::trimmed;
 use std::alloc::Global;
 
 /// What is answered of a word with this fault.
@@ -37,9 +38,9 @@ pub fn read_spec(alloc: Global, word: &str) -> Result<Spec, RequestErr>
 
 /// Where a specification has its name, in bytes of the word without the spaces at its ends.
 fn name_place(word: &str) -> u64
-    ensures { result ≡ name_place (trimmed word.now) }
+    ensures { result ≡ word_specs.name_place (version_text.trimmed word.now) }
 {
-    match word.trim_matches(' ').split_once("::") {
+    match trimmed(word).split_once("::") {
         Some((channel, _)) => channel.len() as u64 + 2,
         None => 0,
     }
@@ -47,7 +48,8 @@ fn name_place(word: &str) -> u64
 
 /// Reads a word as a specification without a star in its name.
 fn read_plain(alloc: Global, word: &str) -> Result<Spec, RequestErr>
-    ensures { Gives word_fault_of result (plain_read word.now) }
+    ensures read { Gives word_fault_of result (plain_read word.now) }
+    ensures plain { IfOk result IsPlain }
 {
     let spec = read_spec(alloc, word)?;
     if spec.has_glob() {
@@ -64,9 +66,10 @@ pub fn read_specs(alloc: Global, words: &[Text]) -> Result<Rows<Spec>, RequestEr
     ensures read { Gives word_fault_of result (plain_words_read words.now) }
     ensures plain { IfOk result (λ specs. All IsPlain specs) }
 {
-    let mut specs = Vec::new(alloc);
+    let mut specs = Rows::from_vec(Vec::with_capacity(alloc, words.len())?);
     for word in words {
-        specs.push(read_plain(alloc, word.as_str())?)?;
+        let spec = read_plain(alloc, word.as_str())?;
+        specs.push(spec)?;
     }
-    Ok(Rows::from_vec(specs))
+    Ok(specs)
 }

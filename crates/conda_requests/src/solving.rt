@@ -1,8 +1,10 @@
-ghost use Rattle.std.specs.Prelude.{◌≡◌, ◌⊎◌, [], Contains, IfOk, List, MatchResult, filter, string_bytes};
+ghost use Rattle.std.specs.Prelude.{◌≡◌, ◌⊎◌, Contains, IfOk, MatchResult, not, string_bytes};
 ghost use Rattle.std.specs.List.{All};
 ghost use Rattle.conda_encode.specs.Clauses.{clauses};
 ghost use Rattle.conda_encode.specs.Variables.{IsPlain, IsRequest};
 ghost use Rattle.conda_explain.specs.Report.{report_text};
+ghost use Rattle.conda_index.specs.Names as names;
+ghost use Rattle.conda_requests.specs.Report as reports;
 ghost use Rattle.conda_requests.specs.Solving as solving;
 ghost use Rattle.conda_requests.specs.Solving.{IsChoiceReport, IsNo};
 ghost use Rattle.conda_requests.specs.declared.error.RequestErr.{RequestErr};
@@ -21,7 +23,7 @@ use std::alloc::{AllocError, Global};
 
 /// What is asked for by specifications.
 fn items_of(alloc: Global, specs: Rows<Spec>) -> Result<Vec<Asked>, AllocError>
-    ensures { IfOk result (λ items. items.items ≡ solving.items_of specs.items) }
+    ensures { IfOk result (λ items. items.items ≡ solving.items_of specs) }
 {
     let mut items = Vec::with_capacity(alloc, specs.len())?;
     for spec in specs.into_vec() {
@@ -34,13 +36,24 @@ fn items_of(alloc: Global, specs: Rows<Spec>) -> Result<Vec<Asked>, AllocError>
     Ok(items)
 }
 
+/// Takes out the virtual packages, which can't be linked.
+fn drop_virtual(set: &mut Vec<PkgRecord>)
+    ensures { set.new.items ≡ solving.linkable set.old.items }
+{
+    set.retain(
+        |pkg: &PkgRecord| -> bool
+            ensures { result ≡ not (names.is_virtual_name pkg.now.name) }
+        { !is_virtual_name(pkg.name.as_str()) },
+    );
+}
+
 /// The report of the packages that can be linked.
 fn choice_report(alloc: Global, set: Vec<PkgRecord>) -> Result<String, AllocError>
     ensures { IfOk result (λ text. string_bytes text
-        ≡ records_text (solving.linkable set.items)) }
+        ≡ reports.records_text (solving.linkable set.items)) }
 {
     let mut set = set;
-    set.retain(|pkg: &PkgRecord| !is_virtual_name(pkg.name.as_str()));
+    drop_virtual(&mut set);
     records_text(alloc, set.as_slice())
 }
 
@@ -76,7 +89,9 @@ pub fn solve_report(alloc: Global, index: &Index, specs: Rows<Spec>) -> Result<S
         (λ e. IsNo specs index.now e ⊎ (e ≡ RequestErr.Memory)) }
 {
     let items = items_of(alloc, specs)?;
-    let pools = index.pools(alloc, items.as_slice())?;
+    let Ok(pools) = index.pools(alloc, items.as_slice()) else {
+        return Err(RequestErr::Memory);
+    };
     match resolve(alloc, pools.as_slice(), items.as_slice(), &[]) {
         Ok(set) => Ok(choice_report(alloc, set)?),
         Err(ResolveErr::Unsat { log }) => {
