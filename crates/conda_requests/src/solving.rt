@@ -89,13 +89,15 @@ pub fn solve_report(alloc: Global, index: &Index, specs: Rows<Spec>) -> Result<S
         (λ e. IsNo specs index.now e ⊎ (e ≡ RequestErr.Memory)) }
 {
     let items = items_of(alloc, specs)?;
-    let Ok(pools) = index.pools(alloc, items.as_slice()) else {
+    let asked = items.as_slice();
+    let Ok(pools) = index.pools(alloc, asked) else {
         return Err(RequestErr::Memory);
     };
-    match resolve(alloc, pools.as_slice(), items.as_slice(), &[]) {
+    let pools = pools.as_slice();
+    match resolve(alloc, pools, asked, &[]) {
         Ok(set) => Ok(choice_report(alloc, set)?),
         Err(ResolveErr::Unsat { log }) => {
-            let report = unsat_report(alloc, pools.as_slice(), items.as_slice(), &log)?;
+            let report = unsat_report(alloc, pools, asked, &log)?;
             Err(RequestErr::Unsat {
                 report: Text::from_string(report),
             })
