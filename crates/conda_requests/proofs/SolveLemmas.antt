@@ -50,7 +50,7 @@ unsat specs index items given pools log text is same names ascending records non
     record {
       pools = given;
       are_pools =
-      subst (λ (asked : List Asked). ArePools index asked given) is (subst (λ (ps : List NamePool). ArePools index items ps) (sym same) of_items);
+          subst (λ (asked : List Asked). ArePools index asked given) is (subst (λ (ps : List NamePool). ArePools index items ps) (sym same) of_items);
       none = subst (λ (asked : List Asked). (set : List PkgRecord) → IsSolution set asked given → ⊥) is none;
       log = log;
       refuted = refuted;

@@ -31,10 +31,10 @@ returns-in-Err-Unsat c =
     inl (
       c.from_string.result,
       unsat c.args.specs c.args.index.now items pools c.in-Ok.pools.items log c.from_string.result
-      (c.as_slice-asked.ensures.value ∙ c.in_ok-items.ensures) c.as_slice-pools.ensures.value c.in-Ok.ensures.names c.in-Ok.ensures.ascending c.in-Ok.ensures.records
-      (of_log error log (λ _. (set : List PkgRecord) → IsSolution set items pools → ⊥) is c.in-Err-Unsat.ensures.none)
-      (of_log error log (λ log. refuted log ≡ true) is c.in-Err-Unsat.ensures.refuted)
-      (of_log error log (λ log. All (Contains (clauses pools items)) log.inputs) is c.in-Err-Unsat.ensures.inputs)
-      (c.from_string.ensures ∙ c.in_ok-report-in-Err-Unsat.ensures),
+          (c.as_slice-asked.ensures.value ∙ c.in_ok-items.ensures) c.as_slice-pools.ensures.value c.in-Ok.ensures.names c.in-Ok.ensures.ascending c.in-Ok.ensures.records
+          (of_log error log (λ _. (set : List PkgRecord) → IsSolution set items pools → ⊥) is c.in-Err-Unsat.ensures.none)
+          (of_log error log (λ log. refuted log ≡ true) is c.in-Err-Unsat.ensures.refuted)
+          (of_log error log (λ log. All (Contains (clauses pools items)) log.inputs) is c.in-Err-Unsat.ensures.inputs)
+          (c.from_string.ensures ∙ c.in_ok-report-in-Err-Unsat.ensures),
       refl,
     )
