@@ -5,10 +5,10 @@ use Rattle.std.proofs.lemmas.List.{append_assoc, drop_more}
 use Rattle.conda_base.specs.Reads.{Read, ◌>>=◌}
 use Rattle.conda_spec.specs.Parts.{Parts}
 use Rattle.conda_requests.specs.Words.{WordFault, plain_read, plain_words_read, word_fault_of}
-use Rattle.conda_requests.specs.declared.error.RequestErr.{RequestErr}
+use Rattle.conda_requests.specs.declared.error.WordErr.{WordErr}
 
 -- what an error names is this fault, which the text has
-pub has_fault : {A : Type 0} (error : RequestErr) (fault : WordFault) (read : Read A WordFault)
+pub has_fault : {A : Type 0} (error : WordErr) (fault : WordFault) (read : Read A WordFault)
     → IfSome (word_fault_of error) (λ found. found ≡ fault) → read ≡ Err fault
     → IfSome (word_fault_of error) (λ found. read ≡ Err found)
 has_fault error fault read is has = by (word_fault_of error) is
@@ -59,7 +59,7 @@ next words at word text made new spec below is same given pushed done =
     ∙ done
 
 -- what is wrong with that word is wrong with the words
-pub stop : (words : List (List ℕ)) (at : ℕ) (word text : List ℕ) (made : List Parts) (error : RequestErr)
+pub stop : (words : List (List ℕ)) (at : ℕ) (word text : List ℕ) (made : List Parts) (error : WordErr)
     → at < length words → word ≡ slice_index_or words at word → text ≡ word
     → IfSome (word_fault_of error) (λ fault. plain_read text ≡ Err fault) → IsReadTo made at words
     → IfSome (word_fault_of error) (λ fault. plain_words_read words ≡ Err fault)

@@ -12,8 +12,8 @@ use Rattle.conda_version.specs.Text.{trimmed}
 use Rattle.conda_spec.specs.Cuts.{cut_colons}
 use Rattle.conda_spec.specs.Parts.{Parts}
 use Rattle.conda_spec.specs.Reading.{spec_read}
-use Rattle.conda_requests.specs.declared.error.RequestErr.{RequestErr}
-use Rattle.conda_requests.specs.declared.error.RequestErr.TheVariants.{BadSpec, NoMatch, Unsat, Memory}
+use Rattle.conda_requests.specs.declared.error.WordErr.{WordErr}
+use Rattle.conda_requests.specs.declared.error.WordErr.TheVariants.{BadSpec, Memory}
 
 -- a word that isn't taken: the word, where its fault stands, and what is wrong there
 pub record WordFault : Type 0 where
@@ -22,10 +22,8 @@ pub record WordFault : Type 0 where
   pub why : SpecWhy
 
 -- the fault of a word that an error names
-abbrev pub word_fault_of : RequestErr → Option WordFault
+abbrev pub word_fault_of : WordErr → Option WordFault
 word_fault_of (BadSpec text at why) = Some (record { text = text; at = at; why = why })
-word_fault_of NoMatch = None
-word_fault_of (Unsat report) = None
 word_fault_of Memory = None
 
 -- the same, of the word's own reading

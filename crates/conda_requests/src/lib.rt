@@ -7,7 +7,7 @@ mod report;
 mod searching;
 mod solving;
 
-pub use error::RequestErr;
+pub use error::{RequestErr, WordErr};
 pub use reading::{read_spec, read_specs};
 pub use searching::search_report;
 pub use solving::solve_report;

@@ -6,33 +6,33 @@ ghost use Rattle.conda_requests.specs.Words as word_specs;
 ghost use Rattle.conda_requests.specs.Words.{plain_read, plain_words_read, word_fault_of, word_read};
 ghost use Rattle.conda_version.specs.Text as version_text;
 
-use crate::error::RequestErr;
+use crate::error::WordErr;
 use conda_base::{Rows, Text};
 use conda_spec::{Spec, SpecErr, SpecWhy};
 use conda_version::trimmed;
 use std::alloc::Global;
 
 /// What is answered of a word with this fault.
-fn bad_word(alloc: Global, word: &str, at: u64, why: SpecWhy) -> RequestErr
+fn bad_word(alloc: Global, word: &str, at: u64, why: SpecWhy) -> WordErr
     ensures { IfSome (word_fault_of result) (λ fault.
         fault ≡ record { text = word.now; at = at; why = why }) }
 {
     match Text::from_str(alloc, word) {
-        Ok(text) => RequestErr::BadSpec { text, at, why },
-        Err(_) => RequestErr::Memory,
+        Ok(text) => WordErr::BadSpec { text, at, why },
+        Err(_) => WordErr::Memory,
     }
 }
 
 /// Reads a word as a specification, in whose name a star may stand.
 ///
 /// `BadSpec` names the first fault of the word.
-pub fn read_spec(alloc: Global, word: &str) -> Result<Spec, RequestErr>
+pub fn read_spec(alloc: Global, word: &str) -> Result<Spec, WordErr>
     ensures { Gives word_fault_of result (word_read word.now) }
 {
     match Spec::read(alloc, word) {
         Ok(spec) => Ok(spec),
         Err(SpecErr::BadSpec { at, why }) => Err(bad_word(alloc, word, at as u64, why)),
-        Err(SpecErr::Memory) => Err(RequestErr::Memory),
+        Err(SpecErr::Memory) => Err(WordErr::Memory),
     }
 }
 
@@ -47,7 +47,7 @@ fn name_place(word: &str) -> u64
 }
 
 /// Reads a word as a specification without a star in its name.
-fn read_plain(alloc: Global, word: &str) -> Result<Spec, RequestErr>
+fn read_plain(alloc: Global, word: &str) -> Result<Spec, WordErr>
     ensures read { Gives word_fault_of result (plain_read word.now) }
     ensures plain { IfOk result IsPlain }
 {
@@ -62,7 +62,7 @@ fn read_plain(alloc: Global, word: &str) -> Result<Spec, RequestErr>
 ///
 /// `BadSpec` names the first fault of the first word that has one; for a star it names the place
 /// where the name begins.
-pub fn read_specs(alloc: Global, words: &[Text]) -> Result<Rows<Spec>, RequestErr>
+pub fn read_specs(alloc: Global, words: &[Text]) -> Result<Rows<Spec>, WordErr>
     ensures read { Gives word_fault_of result (plain_words_read words.now) }
     ensures plain { IfOk result (λ specs. All IsPlain specs) }
 {
