@@ -2,7 +2,7 @@ use crate::index::index_of;
 use crate::report::reasons_of;
 use conda_base::Text;
 use conda_index::Index;
-use conda_requests::{RequestErr, read_spec, read_specs, search_report, solve_report};
+use conda_requests::{RequestErr, WordErr, read_spec, read_specs, search_report, solve_report};
 use rows_text::shown;
 use std::alloc::{AllocError, Global};
 use std::thread::Threads;
@@ -22,14 +22,13 @@ pub fn answer<R: Threads + Sync>(
     let Some(index) = index_of(rt, alloc, records.as_str(), virtuals.as_str())? else {
         return Ok(None);
     };
-    let report = match call {
-        "request.search" => search(rt, alloc, &index, words.as_str()),
-        "request.solve" => solve(alloc, &index, words_of(alloc, words.as_str())?.as_slice()),
-        _ => return Ok(None),
-    };
-    match report {
-        Ok(text) => Ok(Some(lines_of(alloc, text.as_str())?)),
-        Err(error) => Ok(Some(said_of(alloc, &error)?)),
+    match call {
+        "request.search" => Ok(Some(search(rt, alloc, &index, words.as_str())?)),
+        "request.solve" => {
+            let words = words_of(alloc, words.as_str())?;
+            Ok(Some(solve(alloc, &index, words.as_slice())?))
+        }
+        _ => Ok(None),
     }
 }
 
@@ -50,14 +49,28 @@ fn search<R: Threads + Sync>(
     alloc: Global,
     index: &Index,
     word: &str,
-) -> Result<String, RequestErr> {
-    let spec = read_spec(alloc, word)?;
-    search_report(rt, alloc, index, &spec)
+) -> Result<String, AllocError> {
+    match read_spec(alloc, word) {
+        Ok(spec) => said_of(alloc, search_report(rt, alloc, index, &spec)),
+        Err(error) => bad_word(alloc, &error),
+    }
 }
 
-fn solve(alloc: Global, index: &Index, words: &[Text]) -> Result<String, RequestErr> {
-    let specs = read_specs(alloc, words)?;
-    solve_report(alloc, index, specs)
+fn solve(alloc: Global, index: &Index, words: &[Text]) -> Result<String, AllocError> {
+    match read_specs(alloc, words) {
+        Ok(specs) => said_of(alloc, solve_report(alloc, index, specs)),
+        Err(error) => bad_word(alloc, &error),
+    }
+}
+
+fn bad_word(alloc: Global, error: &WordErr) -> Result<String, AllocError> {
+    match error {
+        WordErr::BadSpec { text, at, why } => {
+            let text = text.as_str();
+            format!(in alloc; "bad specification {text}: {at} {why}")
+        }
+        WordErr::Memory => Err(AllocError),
+    }
 }
 
 /// The report's lines.
@@ -68,22 +81,19 @@ fn lines_of(alloc: Global, text: &str) -> Result<String, AllocError> {
     shown(alloc, text)
 }
 
-/// What is said where there is no report: of a report on a request that has no solution its first
-/// line, its reasons, and what the checker says of the refutation behind them.
-fn said_of(alloc: Global, error: &RequestErr) -> Result<String, AllocError> {
-    match error {
-        RequestErr::BadSpec { text, at, why } => {
-            let text = text.as_str();
-            format!(in alloc; "bad specification {text}: {at} {why}")
-        }
-        RequestErr::NoMatch => String::from_str(alloc, "no match"),
-        RequestErr::Unsat { report } => match report.as_str().split_once('\n') {
+/// What is said of an answer: of a report on a request that has no solution its first line, its
+/// reasons, and what the checker says of the refutation behind them.
+fn said_of(alloc: Global, report: Result<String, RequestErr>) -> Result<String, AllocError> {
+    match report {
+        Ok(text) => lines_of(alloc, text.as_str()),
+        Err(RequestErr::NoMatch) => String::from_str(alloc, "no match"),
+        Err(RequestErr::Unsat { report }) => match report.as_str().split_once('\n') {
             Some((first, _)) => {
                 let reasons = reasons_of(alloc, report.as_str())?;
                 format!(in alloc; "{first} {reasons}")
             }
             None => String::from_str(alloc, "no report"),
         },
-        RequestErr::Memory => Err(AllocError),
+        Err(RequestErr::Memory) => Err(AllocError),
     }
 }
