@@ -11,7 +11,7 @@ use crate::spec_list::read_specs;
 use conda_base::{Rows, Text};
 use conda_json::{Null, list_of, number_of, optional_list, optional_text, text_of};
 use conda_path::{Dist, DistErr, cut_ending};
-use conda_spec::Spec;
+use conda_spec::{Spec, SpecTable};
 use conda_version::{Version, VersionErr};
 use serde_json::Value;
 use std::alloc::Global;
@@ -100,11 +100,15 @@ pub fn build_number_field(value: &Value) -> Result<u64, RecordErr>
     }
 }
 
-pub fn depends_field(alloc: Global, value: &Value) -> Result<Rows<Spec>, RecordErr>
+pub fn depends_field(
+    alloc: Global,
+    table: &mut SpecTable,
+    value: &Value,
+) -> Result<Rows<Spec>, RecordErr>
     ensures { Gives record_fault_of result (records.depends_read (view value.now)) }
 {
     match list_of(value, "depends") {
-        Ok(elements) => read_specs(alloc, RecordField::Depends, elements),
+        Ok(elements) => read_specs(alloc, table, RecordField::Depends, elements),
         Err(_) => Err(RecordErr::BadRecord {
             field: RecordField::Depends,
         }),
@@ -112,11 +116,15 @@ pub fn depends_field(alloc: Global, value: &Value) -> Result<Rows<Spec>, RecordE
 }
 
 /// The specifications that the package bars others by; none where the field is absent.
-pub fn constrains_field(alloc: Global, value: &Value) -> Result<Rows<Spec>, RecordErr>
+pub fn constrains_field(
+    alloc: Global,
+    table: &mut SpecTable,
+    value: &Value,
+) -> Result<Rows<Spec>, RecordErr>
     ensures { Gives record_fault_of result (records.constrains_read (view value.now)) }
 {
     match optional_list(value, "constrains", Null::Bad) {
-        Ok(Some(elements)) => read_specs(alloc, RecordField::Constrains, elements),
+        Ok(Some(elements)) => read_specs(alloc, table, RecordField::Constrains, elements),
         Ok(None) => Ok(Rows::new(alloc)),
         Err(_) => Err(RecordErr::BadRecord {
             field: RecordField::Constrains,

@@ -10,11 +10,11 @@ use crate::fields::{
 use crate::noarch::noarch_of;
 use crate::pkg_record::PkgRecord;
 use conda_base::Text;
+use conda_spec::SpecTable;
 use serde_json::Value;
 use std::alloc::Global;
 
 impl PkgRecord {
-    #[tactic(auto, unfolding(crate::specs::Records::record_read))]
     /// Reads the record of a package file in the subdir of a channel. The file's name is a dist,
     /// with the ending of a package file (`.tar.bz2` or `.conda`) or without it.
     ///
@@ -36,13 +36,30 @@ impl PkgRecord {
         ensures { Gives record_fault_of result
             (record_read (view value.now) file.now channel.now subdir.now) }
     {
+        let mut table = SpecTable::new(alloc);
+        PkgRecord::read_by(alloc, &mut table, value, file, channel, subdir)
+    }
+
+    #[tactic(auto, unfolding(crate::specs::Records::record_read))]
+    /// The same; equal texts of specifications are read once, and kept in the table.
+    pub fn read_by(
+        alloc: Global,
+        table: &mut SpecTable,
+        value: &Value,
+        file: &str,
+        channel: &str,
+        subdir: &str,
+    ) -> Result<PkgRecord, RecordErr>
+        ensures { Gives record_fault_of result
+            (record_read (view value.now) file.now channel.now subdir.now) }
+    {
         let dist = dist_of(alloc, file)?;
         let name = name_field(value)?;
         let version = version_field(alloc, value)?;
         let build = build_field(value)?;
         let build_number = build_number_field(value)?;
-        let depends = depends_field(alloc, value)?;
-        let constrains = constrains_field(alloc, value)?;
+        let depends = depends_field(alloc, table, value)?;
+        let constrains = constrains_field(alloc, table, value)?;
         let subdir = subdir_field(alloc, value, subdir)?;
         if !is_of_parts(&dist, name, version.text(), build) {
             return Err(RecordErr::BadRecord {

@@ -6,19 +6,24 @@ ghost use Rattle.conda_record.specs.Records.{record_fault_of};
 
 use crate::error::{RecordErr, RecordField};
 use conda_base::Rows;
-use conda_spec::{Spec, SpecErr};
+use conda_spec::{Spec, SpecErr, SpecTable};
 use serde_json::Value;
 use std::alloc::Global;
 
 /// The specification that an element of the field's list is, without a star in its name.
-fn plain_spec(alloc: Global, field: RecordField, element: &Value) -> Result<Spec, RecordErr>
+fn plain_spec(
+    alloc: Global,
+    table: &mut SpecTable,
+    field: RecordField,
+    element: &Value,
+) -> Result<Spec, RecordErr>
     ensures { Gives record_fault_of result (records.plain_spec field (view element.now)) }
 {
     let text = match element.as_str() {
         Some(text) => text,
         None => return Err(RecordErr::BadRecord { field }),
     };
-    let spec = match Spec::read(alloc, text) {
+    let spec = match table.read(alloc, text) {
         Ok(spec) => spec,
         Err(SpecErr::BadSpec { at: _, why: _ }) => return Err(RecordErr::BadRecord { field }),
         Err(SpecErr::Memory) => return Err(RecordErr::Memory),
@@ -33,6 +38,7 @@ fn plain_spec(alloc: Global, field: RecordField, element: &Value) -> Result<Spec
 /// The specifications of the field's list, in its order.
 pub fn read_specs(
     alloc: Global,
+    table: &mut SpecTable,
     field: RecordField,
     elements: &[Value],
 ) -> Result<Rows<Spec>, RecordErr>
@@ -40,7 +46,7 @@ pub fn read_specs(
 {
     let mut specs = Rows::from_vec(Vec::with_capacity(alloc, elements.len())?);
     for element in elements {
-        let spec = plain_spec(alloc, field, element)?;
+        let spec = plain_spec(alloc, table, field, element)?;
         specs.push(spec)?;
     }
     Ok(specs)

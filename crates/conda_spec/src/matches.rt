@@ -23,12 +23,13 @@ impl Spec {
     ) -> bool
         ensures { result ≡ spec_matches self.now (record { name = name.now; version = version.now; build = build.now; number = build_number; channel = channel.now; subdir = subdir.now }) }
     {
-        glob_lowered(self.name.as_str(), name)
-            && allows_version(&self.version, version)
-            && allows_build(&self.build, build)
-            && allows_number(self.number, build_number)
-            && allows_text(&self.channel, channel)
-            && allows_text(&self.subdir, subdir)
+        let parts = &*self.held;
+        glob_lowered(parts.name.as_str(), name)
+            && allows_version(&parts.version, version)
+            && allows_build(&parts.build, build)
+            && allows_number(parts.number, build_number)
+            && allows_text(&parts.channel, channel)
+            && allows_text(&parts.subdir, subdir)
     }
 }
 

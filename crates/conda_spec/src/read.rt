@@ -9,11 +9,13 @@ ghost use Rattle.conda_spec.specs.Reading.{brackets_of, spec_parts, spec_read, v
 use crate::cuts::without_last;
 use crate::given::{Given, nothing};
 use crate::head::{Front, front};
+use crate::held::Held;
 use crate::items::items;
 use crate::spec::Spec;
 use conda_base::{Text, cut_last};
 use conda_clause::{SpecErr, VersionClause};
 use std::alloc::{AllocError, Global};
+use std::sync::Arc;
 
 // What stands before the brackets, and what stands in them.
 fn brackets_of(text: &str) -> Option<(&str, &str)>
@@ -58,14 +60,18 @@ fn spec_of(alloc: Global, front: Front, given: Given) -> Result<Spec, AllocError
     let (name, before) = front;
     let build = given.build.or(before.build);
     let version = version_beside(alloc, &build, given.version.or(before.version))?;
-    Ok(Spec {
-        channel: given.channel.or(before.channel),
-        subdir: given.subdir.or(before.subdir),
-        name,
-        version,
-        build,
-        number: given.number,
-    })
+    let held = Arc::new(
+        alloc,
+        Held {
+            channel: given.channel.or(before.channel),
+            subdir: given.subdir.or(before.subdir),
+            name,
+            version,
+            build,
+            number: given.number,
+        },
+    )?;
+    Ok(Spec { held })
 }
 
 /// Reads a specification without spaces at its ends.

@@ -8,36 +8,49 @@ ghost use Rattle.conda_clause.specs.Faults.{spec_fault_of};
 ghost use Rattle.conda_spec.specs.Parts.{IsSpec};
 ghost use Rattle.conda_spec.specs.Reading.{spec_read};
 
+use crate::held::Held;
 use crate::read::read;
-use conda_base::Text;
-use conda_clause::{SpecErr, VersionClause};
+use conda_base::Copied;
+use conda_clause::SpecErr;
 use conda_version::trimmed;
-use std::alloc::Global;
+use std::alloc::{AllocError, Global};
 use std::marker::Model;
+use std::sync::Arc;
 
-/// A match specification. Contracts see it as its parts.
-#[derive(Clone, Debug, Drop)]
+/// A match specification, whose copies share its parts. Contracts see it as these.
+#[derive(Debug, Drop)]
 pub struct Spec {
-    pub(crate) channel: Option<Text>,
-    pub(crate) subdir: Option<Text>,
-    pub(crate) name: Text,
-    pub(crate) version: Option<VersionClause>,
-    pub(crate) build: Option<Text>,
-    pub(crate) number: Option<u64>,
+    pub(crate) held: Arc<Held, Global>,
 }
 
 impl Model for Spec {
+    ghost use Rattle.std.specs.Arc.{arc_value};
     ghost use Rattle.conda_spec.specs.Parts.{IsSpec, Parts, coded_parts};
 
     ghost Value = { Parts };
 
     ghost coded = { coded_parts };
 
-    ghost view = { λ s. record { channel = s.channel; subdir = s.subdir; name = s.name; version = s.version; build = s.build; number = s.number } };
+    ghost view = { λ s. arc_value s.held };
 
-    ghost inverse = { λ p. record { channel = p.channel; subdir = p.subdir; name = p.name; version = p.version; build = p.build; number = p.number } };
+    ghost invariant = { λ s. IsSpec (arc_value s.held) };
+}
 
-    ghost invariant = { λ s. IsSpec (record { channel = s.channel; subdir = s.subdir; name = s.name; version = s.version; build = s.build; number = s.number }) };
+impl Clone for Spec {
+    ghost use Rattle.std.specs.Prelude.{◌≡◌};
+
+    ghost is_clone = { λ spec made. made ≡ spec };
+
+    fn clone(&self) -> Result<Spec, AllocError> {
+        let held = Arc::try_clone(&self.held)?;
+        Ok(Spec { held })
+    }
+}
+
+impl Copied for Spec {
+    fn copy(&self) -> Result<Spec, AllocError> {
+        self.clone()
+    }
 }
 
 impl Spec {
@@ -56,13 +69,13 @@ impl Spec {
     pub fn has_glob(&self) -> bool
         ensures { result ≡ list_any (is_byte star) self.now.name }
     {
-        self.name.as_str().as_bytes().contains(&b'*')
+        self.held.name.as_str().as_bytes().contains(&b'*')
     }
 
     /// The name, in lower case.
     pub fn name(&self) -> &str
         ensures { result.now ≡ self.now.name }
     {
-        self.name.as_str()
+        self.held.name.as_str()
     }
 }

@@ -7,7 +7,7 @@ ghost use Rattle.conda_spec.specs.Text.{brackets_text, channel_text, spec_text, 
 
 use crate::laws::normal_form_law;
 use crate::spec::Spec;
-use conda_base::{Copied, Text};
+use conda_base::Text;
 use conda_clause::{SpecErr, VersionClause};
 use std::alloc::{AllocError, Global};
 
@@ -27,22 +27,17 @@ impl Spec {
         ensures text { IfOk result (λ t. string_bytes t ≡ spec_text self.now) }
         ensures good { OnOk result (IsSpec self.now) }
     {
-        let channel = channel_text(alloc, &self.channel)?;
-        let version = version_text(alloc, &self.version)?;
-        let build = word_text(alloc, &self.build)?;
-        let brackets = brackets_text(alloc, self.number, &self.subdir)?;
+        let parts = &*self.held;
+        let channel = channel_text(alloc, &parts.channel)?;
+        let version = version_text(alloc, &parts.version)?;
+        let build = word_text(alloc, &parts.build)?;
+        let brackets = brackets_text(alloc, parts.number, &parts.subdir)?;
         let channel = channel.as_str();
-        let name = self.name.as_str();
+        let name = parts.name.as_str();
         let version = version.as_str();
         let build = build.as_str();
         let brackets = brackets.as_str();
         format!(in alloc; "{channel}{name}{version}{build}{brackets}")
-    }
-}
-
-impl Copied for Spec {
-    fn copy(&self) -> Result<Spec, AllocError> {
-        self.clone()
     }
 }
 
