@@ -1,5 +1,5 @@
-//! The rows of the index, of requests as clauses, of choices and of the reports of requests that have
-//! no solution.
+//! The rows of the index, of requests as clauses, of choices, of the reports of requests that have no
+//! solution, and of what `search` and `solve` answer.
 #![tactic(auto)]
 
 mod choice;
@@ -8,6 +8,7 @@ mod index;
 mod packages;
 mod plain;
 mod report;
+mod requests;
 mod solution;
 
 use conda_base::Text;
@@ -30,6 +31,9 @@ fn answer<R: Threads + Sync>(
     }
     if call.starts_with("resolve.") {
         return choice::answer(rt, alloc, call, arguments);
+    }
+    if call.starts_with("request.") {
+        return requests::answer(rt, alloc, call, arguments);
     }
     report::answer(rt, alloc, call, arguments)
 }

@@ -65,7 +65,7 @@ fn reasons(alloc: Global, encoded: &Encoded) -> Result<String, AllocError>
 }
 
 /// The lines between a report's two headings, and what the checker says of the log behind them.
-fn reasons_of(alloc: Global, report: &str) -> Result<String, AllocError> {
+pub fn reasons_of(alloc: Global, report: &str) -> Result<String, AllocError> {
     let Some((reasons, log)) = report.split_once("refutation:\n") else {
         return String::from_str(alloc, "no refutation");
     };
