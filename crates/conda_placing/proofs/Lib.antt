@@ -1,0 +1,4 @@
+pub mod PutLemmas
+pub mod RowLemmas
+pub mod ContentLemmas
+pub mod PackageLemmas
