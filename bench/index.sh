@@ -40,6 +40,7 @@ use std::alloc::{AllocError, Global};
 use std::env;
 use std::fs;
 use std::io;
+use std::thread::Threads;
 use std::time::{SystemTime, UNIX_EPOCH};
 
 const VIRTUALS: [(&str, &str, &str); 4] = [
@@ -77,7 +78,12 @@ fn virtuals(alloc: Global) -> Result<Vec<Virtual>, AllocError> {
 }
 
 /// The parts of the channel in a folder. Reading the files is not timed.
-fn parts(rt: &HostRuntime, alloc: Global, folder: &str) -> io::Result<Vec<Repodata>> {
+fn parts<R: Threads + Sync>(
+    threads: &R,
+    rt: &HostRuntime,
+    alloc: Global,
+    folder: &str,
+) -> io::Result<Vec<Repodata>> {
     let mut parts = Vec::new(alloc);
     for subdir in ["linux-64", "noarch"] {
         let path = format!(in alloc; "{folder}/{subdir}/repodata.json")?;
@@ -85,7 +91,7 @@ fn parts(rt: &HostRuntime, alloc: Global, folder: &str) -> io::Result<Vec<Repoda
             continue;
         };
         let start = now(rt)?;
-        if let Ok(part) = Repodata::read(alloc, bytes.as_slice(), "main", subdir) {
+        if let Ok(part) = Repodata::read(threads, alloc, bytes.as_slice(), "main", subdir) {
             let _start = since(rt, "read", start)?;
             println!(rt; "records {}", part.recs.len())?;
             parts.push(part)?;
@@ -164,7 +170,7 @@ fn words_given(rt: &HostRuntime, alloc: Global) -> io::Result<Words> {
 fn main(rt: HostRuntime) -> io::Result<()> {
     let alloc = rt.alloc();
     let words = words_given(&rt, alloc)?;
-    let parts = parts(&rt, alloc, words.folder.as_str())?;
+    let parts = parts(&rt, &rt, alloc, words.folder.as_str())?;
     let virtuals = virtuals(alloc)?;
     if !can_index(alloc, parts.as_slice(), virtuals.as_slice())? {
         return println!(rt; "no index");

@@ -32,7 +32,7 @@ fn main(rt: HostRuntime) -> io::Result<()> {
             None => "linux-64",
         };
         let start = SystemTime::now(&rt)?;
-        let Ok(repodata) = Repodata::read(alloc, bytes.as_slice(), "main", subdir) else {
+        let Ok(repodata) = Repodata::read(&rt, alloc, bytes.as_slice(), "main", subdir) else {
             continue;
         };
         let end = SystemTime::now(&rt)?;

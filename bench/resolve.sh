@@ -40,6 +40,7 @@ use std::alloc::{AllocError, Global};
 use std::env;
 use std::fs;
 use std::io;
+use std::thread::Threads;
 use std::time::{SystemTime, UNIX_EPOCH};
 
 const VIRTUALS: [(&str, &str, &str); 4] = [
@@ -69,14 +70,19 @@ fn virtuals(alloc: Global) -> Result<Vec<Virtual>, AllocError> {
 }
 
 /// The parts of the channel in a folder.
-fn parts(rt: &HostRuntime, alloc: Global, folder: &str) -> io::Result<Vec<Repodata>> {
+fn parts<R: Threads + Sync>(
+    threads: &R,
+    rt: &HostRuntime,
+    alloc: Global,
+    folder: &str,
+) -> io::Result<Vec<Repodata>> {
     let mut parts = Vec::new(alloc);
     for subdir in ["linux-64", "noarch"] {
         let path = format!(in alloc; "{folder}/{subdir}/repodata.json")?;
         let Ok(bytes) = fs::read(rt, path.as_str()) else {
             continue;
         };
-        if let Ok(part) = Repodata::read(alloc, bytes.as_slice(), "main", subdir) {
+        if let Ok(part) = Repodata::read(threads, alloc, bytes.as_slice(), "main", subdir) {
             parts.push(part)?;
         }
     }
@@ -124,7 +130,7 @@ fn main(rt: HostRuntime) -> io::Result<()> {
     for word in env::args(&rt)?.skip(1) {
         folder = word;
     }
-    let parts = parts(&rt, alloc, folder.as_str())?;
+    let parts = parts(&rt, &rt, alloc, folder.as_str())?;
     let virtuals = virtuals(alloc)?;
     if !can_index(alloc, parts.as_slice(), virtuals.as_slice())? {
         return println!(rt; "no index");

@@ -2,3 +2,4 @@ pub mod AscendingLemmas
 pub mod EntryLemmas
 pub mod OrderLemmas
 pub mod RuleLemmas
+pub mod WalkLemmas

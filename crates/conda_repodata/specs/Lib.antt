@@ -1,4 +1,5 @@
 pub mod Entries
+pub mod Parts
 pub mod Ascending
 pub mod Reading
 pub mod Rules

@@ -7,6 +7,7 @@ ghost use Rattle.conda_repodata.specs.Entries as entries;
 use conda_json::Value;
 use conda_path::cut_ending;
 use conda_record::{PkgRecord, RecordErr, RecordField};
+use conda_spec::SpecTable;
 use std::alloc::Global;
 
 /// The last second of the year 9999: a greater timestamp is one in milliseconds.
@@ -25,6 +26,7 @@ fn in_milliseconds(timestamp: u64) -> u64
 /// Reads an entry of a channel.
 pub fn read_entry(
     alloc: Global,
+    table: &mut SpecTable,
     file: &str,
     value: &Value,
     channel: &str,
@@ -38,7 +40,7 @@ pub fn read_entry(
             field: RecordField::Fn,
         });
     }
-    let mut pkg = PkgRecord::read(alloc, value, file, channel, subdir)?;
+    let mut pkg = PkgRecord::read_by(alloc, table, value, file, channel, subdir)?;
     pkg.timestamp = in_milliseconds(pkg.timestamp);
     Ok(pkg)
 }

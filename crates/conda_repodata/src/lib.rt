@@ -6,6 +6,7 @@ mod entry;
 mod error;
 mod laws;
 mod order;
+mod parts;
 mod repodata;
 mod walk;
 

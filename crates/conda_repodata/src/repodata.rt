@@ -1,20 +1,23 @@
-ghost use Rattle.std.specs.Prelude.{◌≡◌};
+ghost use Rattle.std.specs.Prelude.{◌≡◌, List, ℕ, IfOk, flat_map};
 ghost use Rattle.std.specs.Option.{unwrap_or, option_map};
 ghost use Rattle.std.specs.Result.{result_map_both};
 ghost use Rattle.serde_json.specs.Data.{no_members};
 ghost use Rattle.serde_json.specs.View.{members_view, view};
 ghost use Rattle.conda_base.specs.Reads.{Gives};
-ghost use Rattle.conda_repodata.specs.Reading.{repodata_fault_of, repodata_of, repodata_read};
-ghost use Rattle.conda_repodata.specs.Reading.{section_read};
+ghost use Rattle.conda_repodata.specs.Parts.{record_in, unread_in};
+ghost use Rattle.conda_repodata.specs.Reading.{all_records, all_unread, repodata_fault_of};
+ghost use Rattle.conda_repodata.specs.Reading.{repodata_of, repodata_read, section_read};
 
 use crate::aside::{Aside, Section};
 use crate::error::{RepodataErr, RepodataField};
 use crate::order::{asides, put_by_dist, put_by_file};
-use crate::walk::Found;
+use crate::parts::read_all;
+use crate::walk::{Entry, Found, add_entries};
 use conda_base::{Copied, Rows};
 use conda_json::{JsonErr, Map, Null, Value, optional_members, parse_object};
 use conda_record::PkgRecord;
 use std::alloc::{AllocError, Global};
+use std::thread::Threads;
 
 /// The packages of one subdir of a channel.
 #[derive(Clone, Debug, Drop)]
@@ -48,8 +51,36 @@ fn members(value: &Value, object: Section) -> Result<Option<&Map<String, Value>>
     }
 }
 
+/// The entries of both objects, those of `packages.conda` first.
+fn entries_of<'a>(
+    alloc: Global,
+    packages: Option<&'a Map<String, Value>>,
+    conda: Option<&'a Map<String, Value>>,
+) -> Result<Vec<Entry<'a>>, AllocError>
+    ensures records { (channel subdir : List ℕ) → IfOk result (λ made.
+        flat_map (record_in channel subdir) made.items
+        ≡ all_records channel subdir
+        (unwrap_or (option_map (λ map. members_view map.now.entries) packages.entry) no_members)
+        (unwrap_or (option_map (λ map. members_view map.now.entries) conda.entry) no_members)) }
+    ensures unread { (channel subdir : List ℕ) → IfOk result (λ made.
+        flat_map (unread_in channel subdir) made.items
+        ≡ all_unread channel subdir
+        (unwrap_or (option_map (λ map. members_view map.now.entries) packages.entry) no_members)
+        (unwrap_or (option_map (λ map. members_view map.now.entries) conda.entry) no_members)) }
+{
+    let mut entries = Vec::new(alloc);
+    if let Some(members) = conda {
+        add_entries(&mut entries, Section::PackagesConda, members)?;
+    }
+    if let Some(members) = packages {
+        add_entries(&mut entries, Section::Packages, members)?;
+    }
+    Ok(entries)
+}
+
 /// What an object means for the subdir of a channel.
-fn read_object(
+fn read_object<R: Threads + Sync>(
+    rt: &R,
     alloc: Global,
     value: &Value,
     channel: &str,
@@ -60,17 +91,11 @@ fn read_object(
 {
     let packages = members(value, Section::Packages)?;
     let conda = members(value, Section::PackagesConda)?;
-    let mut found = Found::new(alloc);
-    if let Some(members) = conda {
-        found.walk(alloc, Section::PackagesConda, members, channel, subdir)?;
-    }
-    if let Some(members) = packages {
-        found.walk(alloc, Section::Packages, members, channel, subdir)?;
-    }
+    let entries = entries_of(alloc, packages, conda)?;
     let Found {
         mut records,
         mut unread,
-    } = found;
+    } = read_all(rt, alloc, entries.as_slice(), channel, subdir)?;
     put_by_dist(&mut records)?;
     put_by_file(&mut unread)?;
     Ok(Repodata {
@@ -92,7 +117,10 @@ impl Repodata {
     ///
     /// `BadRepodata` has `json` where the bytes are no JSON object, and else the first of the two
     /// objects that is there and is none.
-    pub fn read(
+    ///
+    /// Many entries are read in threads of `rt`.
+    pub fn read<R: Threads + Sync>(
+        rt: &R,
         alloc: Global,
         bytes: &[u8],
         channel: &str,
@@ -110,6 +138,6 @@ impl Repodata {
                 });
             }
         };
-        read_object(alloc, &value, channel, subdir)
+        read_object(rt, alloc, &value, channel, subdir)
     }
 }

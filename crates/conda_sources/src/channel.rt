@@ -17,6 +17,7 @@ use conda_checked::Checked;
 use conda_device::{Chan, DeviceErr};
 use conda_repodata::{Repodata, RepodataErr};
 use std::alloc::{AllocError, Global};
+use std::thread::Threads;
 
 /// The most bytes of a repodata text.
 pub const REPODATA_LIMIT: u64 = 268_435_456;
@@ -62,7 +63,8 @@ fn text_of<C: Chan>(
 }
 
 /// What a repodata text of a subdir is read as.
-fn part_of(
+fn part_of<R: Threads + Sync>(
+    rt: &R,
     alloc: Global,
     channel: &str,
     subdir: &str,
@@ -77,7 +79,7 @@ fn part_of(
             path: printed_path(alloc, channel, subdir)?,
         });
     }
-    match Repodata::read(alloc, bytes.as_slice(), channel, subdir) {
+    match Repodata::read(rt, alloc, bytes.as_slice(), channel, subdir) {
         Ok(part) => Ok(Some(part)),
         Err(RepodataErr::BadRepodata { field }) => Err(SourceErr::BadRepodata {
             path: printed_path(alloc, channel, subdir)?,
@@ -88,7 +90,8 @@ fn part_of(
 }
 
 /// The part that a subdir's repodata is read as, if it has any.
-fn if_there(
+fn if_there<R: Threads + Sync>(
+    rt: &R,
     alloc: Global,
     channel: &str,
     subdir: &str,
@@ -99,13 +102,14 @@ fn if_there(
     ensures no_fault { IfErr result IsNoFault }
 {
     match bytes {
-        Some(bytes) => part_of(alloc, channel, subdir, bytes),
+        Some(bytes) => part_of(rt, alloc, channel, subdir, bytes),
         None => Ok(None),
     }
 }
 
 /// The part of a subdir, or None where it has no repodata.
-fn read_part<C: Chan>(
+fn read_part<C: Chan, R: Threads + Sync>(
+    rt: &R,
     alloc: Global,
     chan: &mut Checked<C>,
     channel: &str,
@@ -121,7 +125,7 @@ fn read_part<C: Chan>(
     ensures lacks { lacks_of chan.new ≡ lacks_of chan.old }
 {
     match text_of(alloc, chan, subdir) {
-        Ok(bytes) => if_there(alloc, channel, subdir, bytes),
+        Ok(bytes) => if_there(rt, alloc, channel, subdir, bytes),
         Err(error) => Err(error),
     }
 }
@@ -155,7 +159,8 @@ fn parts_of(
 }
 
 /// Reads the repodata of `noarch`, behind the part of `linux-64`.
-fn read_behind<C: Chan>(
+fn read_behind<C: Chan, R: Threads + Sync>(
+    rt: &R,
     alloc: Global,
     chan: &mut Checked<C>,
     channel: &str,
@@ -170,7 +175,7 @@ fn read_behind<C: Chan>(
         (asked_too (C.asked chan.old.inner) (channels.repodata_path channels.noarch)) (C.asked chan.new.inner) }
     ensures lacks { lacks_of chan.new ≡ lacks_of chan.old }
 {
-    match read_part(alloc, chan, channel, "noarch") {
+    match read_part(rt, alloc, chan, channel, "noarch") {
         Ok(noarch) => parts_of(alloc, channel, linux, noarch),
         Err(error) => Err(error),
     }
@@ -181,7 +186,8 @@ fn read_behind<C: Chan>(
 ///
 /// `BadRepodata` and `LongRepodata` name the first text that is refused; `Missing` comes where both
 /// are absent, and `ChanFault` where the handle failed. No other file is asked for.
-pub fn read_channel<C: Chan>(
+pub fn read_channel<C: Chan, R: Threads + Sync>(
+    rt: &R,
     alloc: Global,
     chan: &mut Checked<C>,
     channel: &str,
@@ -194,8 +200,8 @@ pub fn read_channel<C: Chan>(
     ensures asked { AsksOnlyForRepodata (C.asked chan.old.inner) (C.asked chan.new.inner) }
     ensures lacks { lacks_of chan.new ≡ lacks_of chan.old }
 {
-    match read_part(alloc, chan, channel, "linux-64") {
-        Ok(linux) => read_behind(alloc, chan, channel, linux),
+    match read_part(rt, alloc, chan, channel, "linux-64") {
+        Ok(linux) => read_behind(rt, alloc, chan, channel, linux),
         Err(error) => Err(error),
     }
 }

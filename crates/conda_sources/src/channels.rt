@@ -11,9 +11,11 @@ use conda_checked::Checked;
 use conda_device::{DeviceErr, Host};
 use conda_repodata::Repodata;
 use std::alloc::{AllocError, Global};
+use std::thread::Threads;
 
 /// Reads the repodata of one of the channels in a folder, by a handle that is given back.
-fn read_one<H: Host>(
+fn read_one<H: Host, R: Threads + Sync>(
+    rt: &R,
     alloc: Global,
     host: &mut H,
     root: &str,
@@ -31,7 +33,7 @@ fn read_one<H: Host>(
         Err(DeviceErr::Memory) => return Err(SourceErr::Memory),
     };
     let mut chan = Checked::make(chan);
-    let parts = read_channel(alloc, &mut chan, name);
+    let parts = read_channel(rt, alloc, &mut chan, name);
     host.chan_back(chan.inner);
     parts
 }
@@ -48,7 +50,8 @@ fn put_behind(parts: &mut Vec<Repodata>, more: Rows<Repodata>) -> Result<(), All
 /// by a handle of its own that is given back.
 ///
 /// The first text that is refused, or the first channel without any, ends the reading.
-pub fn read_channels<H: Host>(
+pub fn read_channels<H: Host, R: Threads + Sync>(
+    rt: &R,
     alloc: Global,
     host: &mut H,
     root: &str,
@@ -61,7 +64,7 @@ pub fn read_channels<H: Host>(
 {
     let mut parts = Vec::new(alloc);
     for name in names {
-        match read_one(alloc, host, root, name.as_str()) {
+        match read_one(rt, alloc, host, root, name.as_str()) {
             Ok(more) => {
                 if put_behind(&mut parts, more).is_err() {
                     return Err(SourceErr::Memory);

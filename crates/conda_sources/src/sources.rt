@@ -56,7 +56,7 @@ pub fn index_of<H: Host, R: Threads + Sync>(
     index_laws();
     let virtuals = virtual_list(alloc, command.virtuals.as_slice())?;
     let root = command.channel_dir.as_str();
-    let parts = read_channels(alloc, host, root, command.channels.as_slice())?.into_vec();
+    let parts = read_channels(rt, alloc, host, root, command.channels.as_slice())?.into_vec();
     if !are_few(parts.as_slice(), virtuals.len()) {
         return Err(SourceErr::ManyRecords);
     }

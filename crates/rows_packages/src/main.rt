@@ -7,32 +7,32 @@ mod record;
 mod repodata;
 
 use conda_base::Text;
-use rows_text::{Table, print_rows};
+use rows_waiting::print_answers;
 use std::alloc::{AllocError, Global};
 use std::io;
+use std::thread::Threads;
 
-struct Packages;
-
-impl Table for Packages {
-    fn answer(
-        &self,
-        alloc: Global,
-        call: &str,
-        arguments: &[Text],
-    ) -> Result<Option<String>, AllocError> {
-        if let Some(answer) = paths::answer(alloc, call, arguments)? {
-            return Ok(Some(answer));
-        }
-        if let Some(answer) = link::answer(alloc, call, arguments)? {
-            return Ok(Some(answer));
-        }
-        if let Some(answer) = record::answer(alloc, call, arguments)? {
-            return Ok(Some(answer));
-        }
-        repodata::answer(alloc, call, arguments)
+fn answer<R: Threads + Sync>(
+    rt: &R,
+    alloc: Global,
+    call: &str,
+    arguments: &[Text],
+) -> Result<Option<String>, AllocError> {
+    if let Some(answer) = paths::answer(alloc, call, arguments)? {
+        return Ok(Some(answer));
     }
+    if let Some(answer) = link::answer(alloc, call, arguments)? {
+        return Ok(Some(answer));
+    }
+    if let Some(answer) = record::answer(alloc, call, arguments)? {
+        return Ok(Some(answer));
+    }
+    repodata::answer(rt, alloc, call, arguments)
 }
 
 fn main(rt: HostRuntime) -> io::Result<()> {
-    print_rows(&rt, &Packages)
+    print_answers(
+        &rt,
+        &|alloc: Global, call: &str, arguments: &[Text]| { answer(&rt, alloc, call, arguments) },
+    )
 }

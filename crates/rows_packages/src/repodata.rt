@@ -1,13 +1,19 @@
 use conda_base::{Copied, Text};
 use conda_repodata::{Repodata, RepodataErr};
 use std::alloc::{AllocError, Global};
+use std::thread::Threads;
 
 /// The rows of conda_repodata.
-pub fn answer(alloc: Global, call: &str, arguments: &[Text]) -> Result<Option<String>, AllocError> {
+pub fn answer<R: Threads + Sync>(
+    rt: &R,
+    alloc: Global,
+    call: &str,
+    arguments: &[Text],
+) -> Result<Option<String>, AllocError> {
     match (call, arguments) {
         ("repodata", [channel, subdir, text]) => {
             let bytes = text.as_str().as_bytes();
-            let read = Repodata::read(alloc, bytes, channel.as_str(), subdir.as_str());
+            let read = Repodata::read(rt, alloc, bytes, channel.as_str(), subdir.as_str());
             Ok(Some(shown(alloc, read)?))
         }
         _ => Ok(None),
