@@ -1,0 +1,5 @@
+pub mod DistLemmas
+pub mod GoodLemmas
+pub mod PartLemmas
+pub mod StepLemmas
+pub mod LinkLemmas
