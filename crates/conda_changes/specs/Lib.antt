@@ -1,0 +1,5 @@
+pub mod Moves
+pub mod Paths
+pub mod Trash
+pub mod Counting
+pub mod Shares
