@@ -1,0 +1,4 @@
+pub mod Going
+pub mod Coming
+pub mod Moves
+pub mod Filling
