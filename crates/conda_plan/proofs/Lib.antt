@@ -1,0 +1,10 @@
+mod LastLemmas
+mod AmongLemmas
+mod MemberLemmas
+mod MetaPathLemmas
+mod PlanLemmas
+mod StartLemmas
+mod NamedLemmas
+mod EditLemmas
+mod GoodLemmas
+mod ShowsLemmas
